@@ -1,0 +1,5 @@
+pub mod Limits
+pub mod Packets
+pub mod Datagrams
+pub mod Fields
+pub mod Writing
