@@ -1,0 +1,9 @@
+use Prim.Native.Nat.{_≤_}
+use lib.ListN.{length}
+use Rattle.hear.proofs.report_all.Given as given
+
+abbrev pub Inv-loop-datagram : given.InvT-loop-datagram
+Inv-loop-datagram g l = length (l .rest) ≤ length (l .waiting)
+
+abbrev pub μ-loop-datagram : given.MeasureT-loop-datagram
+μ-loop-datagram g l = length (l .rest)
