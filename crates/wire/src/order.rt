@@ -33,22 +33,22 @@ impl ByteOrder {
     }
 
     /// The two bytes of a number.
-    pub fn encode_u16(self, number: u16) -> [u8; 2]
-        ensures { λ r. ⌜ r ≡ digits self 2 number ⌝ }
+    pub fn encode_u16(self, short: u16) -> [u8; 2]
+        ensures { λ r. ⌜ r ≡ digits self 2 short ⌝ }
     {
         match self {
-            ByteOrder::Big => number.to_be_bytes(),
-            ByteOrder::Little => number.to_le_bytes(),
+            ByteOrder::Big => short.to_be_bytes(),
+            ByteOrder::Little => short.to_le_bytes(),
         }
     }
 
     /// The four bytes of a number.
-    pub fn encode_u32(self, number: u32) -> [u8; 4]
-        ensures { λ r. ⌜ r ≡ digits self 4 number ⌝ }
+    pub fn encode_u32(self, long: u32) -> [u8; 4]
+        ensures { λ r. ⌜ r ≡ digits self 4 long ⌝ }
     {
         match self {
-            ByteOrder::Big => number.to_be_bytes(),
-            ByteOrder::Little => number.to_le_bytes(),
+            ByteOrder::Big => long.to_be_bytes(),
+            ByteOrder::Little => long.to_le_bytes(),
         }
     }
 }

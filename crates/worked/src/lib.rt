@@ -1,0 +1,3 @@
+// Worked examples of the formats, compared by tests. The crate has nothing else.
+#[cfg(test)]
+mod packets;
