@@ -10,7 +10,7 @@ magic-bytes = 0x4D ∷ 0x49 ∷ 0x4F ∷ 0x50 ∷ []
 abbrev pub version-byte : ℕ
 version-byte = 16
 
--- the length of the header before the id, and so of the shortest datagram
+-- the length of the header before the id; a shorter datagram has no header
 abbrev pub header-length : ℕ
 header-length = 20
 

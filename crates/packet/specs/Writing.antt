@@ -7,10 +7,11 @@ use lib.ListN.{length, take, drop}
 use Rattle.std.specs.Results.{Cases}
 use Rattle.std.specs.declared.result.Result.{Result}
 use Rattle.wire.specs.declared.refusal.Refusal.{Refusal}
-use Rattle.wire.specs.declared.refusal.Fault.the-variants.{BufferLength}
+use Rattle.wire.specs.declared.refusal.Layer.the-variants as layer
+use Rattle.wire.specs.Refusals.{fault-number}
 use Rattle.packet.specs.declared.Packet.{Packet}
 use Rattle.packet.specs.Packets.{PacketValue, shown, size-of, canonical, In-range}
-use Rattle.packet.specs.Datagrams.{Packet-refusal, Refused, Reading}
+use Rattle.packet.specs.Datagrams.{Refused, Reading}
 
 -- v can be written, in n bytes
 pub record Writable (v : PacketValue) (n : ℕ) : Type 0 where
@@ -30,7 +31,9 @@ pub record Written (v : PacketValue) (was new : List ℕ) (n : ℕ) : Type 0 whe
 pub record Short (v : PacketValue) (was : List ℕ) (e : Refusal) : Type 0 where
   pub in-range : In-range v
   pub too-short : length was < size-of v
-  pub refusal-is : Packet-refusal BufferLength 0 e
+  pub number-is : fault-number (e .fault) ≡ 10
+  pub place-is : e .place ≡ 0
+  pub by-layer : e .layer ≡ layer.Packet
 
 -- nothing is written: v is refused as its bytes would be, or the buffer is too short for them
 pub record Unwritten (v : PacketValue) (was new : List ℕ) (e : Refusal) : Type 0 where

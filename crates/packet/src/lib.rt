@@ -16,7 +16,7 @@ use wire::refusal::Fault;
 use wire::refusal::Layer;
 use wire::refusal::Refusal;
 
-/// The length of the header before the id, and so of the shortest datagram.
+/// The length of the header before the id. A shorter datagram has no header.
 pub const HEADER_LENGTH: usize = 20;
 
 /// The longest datagram.

@@ -1,15 +1,16 @@
 -- The length at the start of a record.
-use mathlib.Core.Path.{_≡_, sym, ap, _∙_}
-use mathlib.Core.List.{List, _++_}
+use mathlib.Core.Path.{_≡_, refl, sym, ap, subst, _∙_}
+use mathlib.Core.List.{List, [], _∷_, _++_}
 use native.Mathlib.Omega.{arith}
 use Prim.Native.Nat.{ℕ, _+_, _-_, _^_, _≤_, _<_}
 use lib.ListN.{length, take, drop}
-use Rattle.std.proofs.shelf.Lists.{append-assoc, length-append, length-drop, length-take-le, take-at, take-append-drop}
+use Rattle.std.specs.Joined.{joined}
+use Rattle.std.proofs.shelf.Lists.{append-assoc, length-append, length-drop, length-take-le, take-at, take-append-drop, drop-at, length-push, joined-more}
 use Rattle.wire.specs.declared.order.ByteOrder.the-variants.{Big}
 use Rattle.wire.specs.Numbers.{Octets, digits, number-of}
 use Rattle.wire.proofs.Fronts.{elements, take-elements}
 use Rattle.wire.proofs.Numbers.{length-digits, number-digits, digits-number, octets-stretch}
-use Rattle.records.specs.Records.{record-of, Begins}
+use Rattle.records.specs.Records.{record-of, Begins, Cut, Walked}
 
 -- the length as the reader takes it from the first two bytes
 abbrev pub stated : List ℕ → ℕ
@@ -46,3 +47,30 @@ begins-same {input} {xs} {ys} {rest} {more} p q b = rw (p, q) b
 -- what follows a record is shorter than the input
 pub begins-shorter : {input xs rest : List ℕ} → Begins input xs rest → length rest < length input
 begins-shorter {input} {xs} {rest} b = let l = begins-stated input xs rest b .1 in omega arith
+
+-- a walk over records: those that were passed, and what is left
+pub record Passed (input : List ℕ) (n : ℕ) (rest : List ℕ) : Type 0 where
+  pub held : List (List ℕ)
+  pub many : length held ≡ n
+  pub in-a-row : input ≡ joined record-of held ++ rest
+
+pub passed-none : (input : List ℕ) → Passed input 0 input
+passed-none input = record { held = []; many = refl; in-a-row = refl }
+
+pub passed-more : {input rest xs after : List ℕ} {n : ℕ} → Passed input n rest → Begins rest xs after → Passed input (n + 1) after
+passed-more {input} {rest} {xs} {after} {n} p b =
+    let front = joined record-of (p .held) in
+    record {
+      held = p .held ++ xs ∷ [];
+      many = length-push (p .held) xs ∙ ap (λ k. k + 1) (p .many);
+      in-a-row =
+          p .in-a-row ∙ (ap (λ t. front ++ t) (b .bytes-are) ∙ (sym (append-assoc front (record-of xs) after)
+          ∙ ap (λ t. t ++ after) (joined-more record-of [] (p .held) xs)));
+    }
+
+pub passed-walked : {input rest : List ℕ} {n : ℕ} → Passed input n rest → Cut rest → Walked input n (length input - length rest)
+passed-walked {input} {rest} {n} p c =
+    let front = joined record-of (p .held) in
+    let l : length input ≡ length front + length rest = ap length (p .in-a-row) ∙ length-append front rest in
+    let d : drop (length input - length rest) input ≡ rest = ap (drop (length input - length rest)) (p .in-a-row) ∙ drop-at front rest (length input - length rest) (omega arith) in
+    record { held = p .held; many = p .many; in-a-row = p .in-a-row ∙ ap (λ t. front ++ t) (sym d); cut-after = subst Cut (sym d) c }

@@ -1,15 +1,11 @@
 -- What waits in an inbox after a change.
-use mathlib.Core.Path.{_≡_, refl, ap, _∙_}
-use mathlib.Core.Bool.{Bool}
-use mathlib.Core.List.{List, _++_}
+use mathlib.Core.Path.{_≡_, ap, _∙_}
+use mathlib.Core.List.{List}
 use native.Mathlib.Omega.{arith}
 use Prim.Native.Nat.{ℕ, _+_, _-_, _≤_}
-use lib.Dec.{ltb}
 use lib.ListN.{length, take, drop}
 use lib.Seq.{paste}
-use Rattle.std.proofs.shelf.Lists.{length-append, length-drop, length-take-le, take-at, take-rest}
-use Rattle.std.proofs.shelf.Ways.{tells}
-use Rattle.records.specs.Waiting.{Grown}
+use Rattle.std.proofs.shelf.Lists.{length-drop, length-take-le, take-at, take-rest}
 
 -- the rest is moved to the front, and cut off there
 pub moved-front : (xs : List ℕ) (used n : ℕ) → used ≤ length xs → n ≡ length xs → take (n - used) (paste xs 0 (drop used xs) (n - used)) ≡ drop used xs
@@ -17,11 +13,3 @@ moved-front xs used n h e =
     let m : n - used ≤ length (drop used xs) = rw length-drop (omega arith) in
     take-at (take (n - used) (drop used xs)) (drop (0 + (n - used)) xs) (n - used) (length-take-le (n - used) (drop used xs) m)
     ∙ (ap (λ k. take (k - used) (drop used xs)) e ∙ take-rest xs used)
-
-pub grown-by : (was part new : List ℕ) (n : ℕ) → new ≡ was ++ part → length part ≡ n → Grown was new (ltb 0 n)
-grown-by was part new n e l =
-    let k = ap length e ∙ length-append was part in
-    record {
-      front = ap (take (length was)) e ∙ take-at was part (length was) refl;
-      more = grind (arith, tells, k, l);
-    }

@@ -2,7 +2,8 @@
 use mathlib.Core.Path.{_≡_}
 use mathlib.Core.List.{List, _++_}
 use Prim.Native.Nat.{ℕ, _^_, _<_}
-use lib.ListN.{length}
+use lib.ListN.{length, drop}
+use Rattle.std.specs.Joined.{joined}
 use Rattle.wire.specs.declared.order.ByteOrder.the-variants.{Big}
 use Rattle.wire.specs.Numbers.{digits}
 
@@ -18,3 +19,10 @@ pub record Begins (input xs rest : List ℕ) : Type 0 where
 -- the input begins with no whole record
 abbrev pub Cut : List ℕ → Type 0
 Cut input = (xs rest : List ℕ) → Begins input xs rest → ⊥
+
+-- the first `used` bytes are n whole records in a row, and no whole record follows them
+pub record Walked (input : List ℕ) (n used : ℕ) : Type 0 where
+  pub held : List (List ℕ)
+  pub many : length held ≡ n
+  pub in-a-row : input ≡ joined record-of held ++ drop used input
+  pub cut-after : Cut (drop used input)

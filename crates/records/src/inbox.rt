@@ -1,36 +1,26 @@
 // The bytes of an input that wait to be split into records.
 ghost use mathlib.Core.Path.{_≡_};
-ghost use mathlib.Core.List.{[]};
+ghost use mathlib.Core.List.{[], _++_};
 ghost use lib.ListN.{drop};
 ghost use Rattle.std.specs.Of.Vec.{vec-items};
 ghost use Rattle.std.specs.Results.{Cases};
-ghost use Rattle.std.specs.Vec.{made};
-ghost use Rattle.records.specs.Waiting.{Grown};
 use std::alloc::AllocError;
 use std::alloc::Global;
-use std::io;
-use std::io::Read;
-
-/// How much is asked of the input at a time.
-const PIECE: usize = 1 << 18;
 
 /// The bytes of an input that have come and are not used yet.
 #[derive(Drop)]
 pub struct Inbox {
     waiting: Vec<u8>,
-    // where the next bytes are read to, so that a failed reading leaves `waiting` alone
-    piece: Vec<u8>,
 }
 
 impl Inbox {
     /// An inbox without a byte.
-    pub fn new(heap: Global) -> Result<Inbox, AllocError>
-        ensures { λ r. ⌜ made r (λ inbox. vec-items (inbox .waiting) ≡ []) ⌝ }
+    pub fn new(heap: Global) -> Inbox
+        ensures { λ r. ⌜ vec-items (r .waiting) ≡ [] ⌝ }
     {
-        Ok(Inbox {
+        Inbox {
             waiting: Vec::new(heap),
-            piece: vec![in heap; 0; PIECE]?,
-        })
+        }
     }
 
     /// The bytes that wait.
@@ -40,15 +30,13 @@ impl Inbox {
         self.waiting.as_slice()
     }
 
-    /// Reads once from the input, and answers whether any byte came. What waited stays in front.
-    pub fn fill<R: Read>(&mut self, input: &mut R) -> io::Result<bool>
+    /// Puts bytes behind those that wait. Where memory is short, nothing changes.
+    pub fn add(&mut self, bytes: &[u8]) -> Result<(), AllocError>
         ensures { λ r. ⌜ Cases r
-            (λ came. Grown (vec-items (now (self .entry) .waiting)) (vec-items (now (self .exit) .waiting)) came)
+            (λ _. vec-items (now (self .exit) .waiting) ≡ vec-items (now (self .entry) .waiting) ++ now (bytes .entry))
             (λ _. vec-items (now (self .exit) .waiting) ≡ vec-items (now (self .entry) .waiting)) ⌝ }
     {
-        let count = input.read(self.piece.as_mut_slice())?;
-        self.waiting.extend_from_slice(&self.piece[0..count])?;
-        Ok(count > 0)
+        self.waiting.extend_from_slice(bytes)
     }
 
     /// Lets go of the first `used` bytes.

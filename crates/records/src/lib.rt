@@ -6,9 +6,6 @@ use wire::order::ByteOrder;
 
 pub mod inbox;
 
-/// The longest record: its length, and as many bytes as two bytes can count.
-pub const MAX_RECORD: usize = 2 + 65_535;
-
 /// What the first record holds, and the bytes after that record; `None` where the input has no whole record.
 pub fn split_record(input: &[u8]) -> Option<(&[u8], &[u8])>
     ensures { λ r. ⌜ Cases r (Cut (now (input .entry))) (λ p. Begins (now (input .entry)) (now (p .0)) (now (p .1))) ⌝ }

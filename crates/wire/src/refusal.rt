@@ -14,9 +14,9 @@ pub enum Fault {
     Version = 3,
     /// One of the six unused flag bits is set.
     Flags = 4,
-    /// A packet's id is empty or too long, or leaves no place for the body.
+    /// A packet's id is empty or too long, or its body would begin past the datagram's end.
     IdLength = 5,
-    /// A packet's body is empty, or its stated length is not that of the bytes that follow the header.
+    /// A packet's stated body length is 0, or not that of the bytes from the body's place to the end.
     BodyLength = 6,
     /// A packet's number, count and stop flag do not go together.
     Numbering = 7,
