@@ -1,0 +1,9 @@
+pub mod Limits
+pub mod Refusals
+pub mod Lengths
+pub mod Ids
+pub mod Packets
+pub mod Sending
+pub mod Runs
+pub mod Parts
+pub mod States
