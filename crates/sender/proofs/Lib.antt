@@ -1,3 +1,9 @@
 pub mod Issues
 pub mod Cuts
 pub mod Buffers
+pub mod Messages
+pub mod Portions
+pub mod Tails
+pub mod Finals
+pub mod Joins
+pub mod Lawful

@@ -1,6 +1,7 @@
 -- The packets of a message, and their bytes.
 use mathlib.Core.Path.{_≡_}
-use mathlib.Core.List.{List, _++_, map}
+use mathlib.Core.Bool.{Bool}
+use mathlib.Core.List.{List, map}
 use Prim.Native.Nat.{ℕ, _+_, _-_, _*_, _/_, _<_, _≤_}
 use lib.Dec.{eqb}
 use lib.ListN.{length, getD, take, drop}
@@ -18,20 +19,25 @@ pub record Plan : Type 0 where
   pub id : List ℕ
   pub order : ByteOrder
 
+abbrev pub plan-by : ℕ → List ℕ → ByteOrder → Plan
+plan-by c i o = record { cut = c; id = i; order = o }
+
+-- it can be sent so: the packets fit their datagrams
+pub record Lawful-plan (p : Plan) : Type 0 where
+  pub lawful-cut : Lawful-length (p .cut)
+  pub id-size : length (p .id) ≡ id-length
+
 -- how many packets n bytes make: n / cut, rounded up
 abbrev pub packet-count : ℕ → ℕ → ℕ
 packet-count cut n = (n + (cut - 1)) / cut
 
--- packet i of the message m: the cut from i * cut on, which is shorter at the end of the message; the last has the stop flag
+-- a packet by its stop flag, its number and its body; the count is not said
+abbrev pub packet-with : Plan → Bool → ℕ → List ℕ → PacketValue
+packet-with p last i b = record { order = p .order; stop = last; number = i; count = 0; id = p .id; body = b }
+
+-- packet i of the message m: the cut from i * cut on, shorter at the end of the message; the last has the stop flag
 unfoldable pub packet-at : Plan → List ℕ → ℕ → PacketValue
-packet-at p m i = record {
-  order = p .order;
-  stop = eqb (i + 1) (packet-count (p .cut) (length m));
-  number = i;
-  count = 0;
-  id = p .id;
-  body = take (p .cut) (drop (i * p .cut) m);
-}
+packet-at p m i = packet-with p (eqb (i + 1) (packet-count (p .cut) (length m))) i (take (p .cut) (drop (i * p .cut) m))
 
 -- n packets of the message m, from packet i on
 abbrev pub packets-from : Plan → List ℕ → ℕ → ℕ → List PacketValue
@@ -62,5 +68,4 @@ pub record Lawful-packets (p : Plan) (m : List ℕ) (vs : List PacketValue) : Ty
 
 -- the packets of any message that is not too long are such as a reader accepts, and carry it
 abbrev pub Packets-lawful : Type 0
-Packets-lawful = (p : Plan) (m : List ℕ) → Lawful-length (p .cut) → length (p .id) ≡ id-length
-    → 0 < length m → length m ≤ max-packets * p .cut → Lawful-packets p m (packets-of p m)
+Packets-lawful = (p : Plan) (m : List ℕ) → Lawful-plan p → 0 < length m → length m ≤ max-packets * p .cut → Lawful-packets p m (packets-of p m)

@@ -5,8 +5,7 @@ use Prim.Native.Nat.{ℕ, _*_}
 use lib.ListN.{take}
 use Rattle.std.specs.Joined.{joined}
 use Rattle.wire.specs.declared.refusal.Refusal.{Refusal}
-use Rattle.sender.specs.Lengths.{Lawful-length}
-use Rattle.sender.specs.Packets.{Plan, packets-of, bytes-of}
+use Rattle.sender.specs.Packets.{Plan, Lawful-plan, packets-of, bytes-of}
 use Rattle.sender.specs.Sending.{Sending, new-sending, full-size, Took, Added, Unadded, Ended}
 
 -- the message that portions make
@@ -28,5 +27,5 @@ pub record Portions-sent (p : Plan) (m out : List ℕ) (s : Sending) : Type 0 wh
   pub all-written : (was new : List ℕ) (n : ℕ) → Ended s was new n → out ++ take n new ≡ bytes-of (packets-of p m)
 
 abbrev pub Portions-join : Type 0
-Portions-join = (p : Plan) (qs : List (List ℕ)) (out : List ℕ) (s : Sending) → Lawful-length (p .cut)
-    → Sends p qs out s → Portions-sent p (whole qs) out s
+Portions-join = (p : Plan) (qs : List (List ℕ)) (out : List ℕ) (s : Sending) → Lawful-plan p → Sends p qs out s
+    → Portions-sent p (whole qs) out s

@@ -1,6 +1,5 @@
 -- What a sender holds that took a message so far, and what its calls do.
 use mathlib.Core.Path.{_≡_}
-use mathlib.Core.Logic.{_⊎_}
 use mathlib.Core.List.{List, [], _++_}
 use Prim.Native.Nat.{ℕ, _+_, _-_, _*_, _/_, _<_, _≤_}
 use lib.ListN.{length, drop}
@@ -81,7 +80,7 @@ pub record Ended (s : Sending) (was new : List ℕ) (n : ℕ) : Type 0 where
 -- there is no message, or, after that, the buffer is too short
 pub data End-flaw (s : Sending) (m was : List ℕ) (e : Refusal) : Type 0 where
   no-message : Sender-refusal EmptyMessage e → m ≡ [] → End-flaw s m was e
-  short-buffer : Sender-refusal BufferLength e → 0 < length m → length was < size-of (final-packet (s .plan) m) → End-flaw s m was e
+  short-end : Sender-refusal BufferLength e → 0 < length m → length was < size-of (final-packet (s .plan) m) → End-flaw s m was e
 
 -- the last packet is refused, and nothing changes
 pub record Unended (s : Sending) (was new : List ℕ) (e : Refusal) : Type 0 where

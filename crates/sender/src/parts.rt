@@ -1,4 +1,4 @@
-// Packets and bodies, put into buffers.
+// Packets, made from what a sender holds and put into buffers.
 ghost use mathlib.Core.Path.{_≡_};
 ghost use mathlib.Core.List.{[], _∷_, _++_};
 ghost use Prim.Native.Nat.{_+_, _*_, _<_, _≤_};
@@ -6,9 +6,27 @@ ghost use lib.ListN.{length, take, drop};
 ghost use Rattle.wire.specs.Limits.{max-packets};
 ghost use Rattle.packet.specs.Packets.{shown, size-of, In-range};
 ghost use Rattle.packet.specs.Limits.{max-datagram};
+ghost use Rattle.sender.specs.Limits.{most-length};
 ghost use Rattle.sender.specs.Packets.{bytes-of};
 ghost use Rattle.sender.specs.Parts.{run-of};
+ghost use Rattle.sender.specs.States.{tail-packet};
+use crate::state::State;
 use packet::Packet;
+
+// The next packet, whose body is the first n bytes of the tail.
+pub fn tail_packet(state: &State, stop: bool, n: usize) -> Packet
+    requires { ⌜ n ≤ most-length ⌝ }
+    ensures { λ r. ⌜ shown r ≡ tail-packet (now (state .entry)) stop n ⌝ }
+{
+    Packet {
+        order: state.order,
+        stop,
+        number: state.sent as u32,
+        count: 0,
+        id: &state.id,
+        body: &state.tail[0..n],
+    }
+}
 
 // Writes `part` at `at`.
 pub fn put(buffer: &mut [u8], at: usize, part: &[u8])

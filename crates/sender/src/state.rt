@@ -1,15 +1,18 @@
 // What a sender remembers of its message.
+ghost use mathlib.Core.Path.{_≡_};
 ghost use Prim.Native.Nat.{_<_, _≤_};
+ghost use lib.ListN.{length};
 ghost use Rattle.wire.specs.Limits.{max-packets};
+ghost use Rattle.sender.specs.Limits.{id-length, least-length, most-length};
 use crate::ids::ID_LENGTH;
-use crate::length::BodyLength;
 use crate::length::MAX_LENGTH;
 use wire::order::ByteOrder;
 
 /// How the message is sent, and what of it is not written yet.
 #[derive(Drop)]
 pub struct State {
-    pub body_length: BodyLength,
+    /// The body length.
+    pub cut: usize,
     pub id: [u8; ID_LENGTH],
     pub order: ByteOrder,
     /// How many packets are written.
@@ -17,6 +20,10 @@ pub struct State {
     /// How many bytes of the tail came and are not written: at most one body.
     pub held: usize,
     pub tail: [u8; MAX_LENGTH],
+    ghost least: { least-length ≤ cut },
+    ghost most: { cut ≤ most-length },
+    ghost id_size: { length id ≡ id-length },
+    ghost tail_size: { length tail ≡ most-length },
     ghost few: { sent < max-packets },
-    ghost kept: { held ≤ «body_length» .value },
+    ghost kept: { held ≤ cut },
 }
