@@ -1,6 +1,6 @@
 -- Packets, put one after the other.
-use mathlib.Core.Path.{_≡_, refl, sym, ap, subst, _∙_}
-use mathlib.Core.Logic.{_⊎_, ⊎-elim}
+use mathlib.Core.Path.{_≡_, refl, sym, ap, _∙_}
+use mathlib.Core.Logic.{⊎-elim}
 use mathlib.Core.List.{List, [], _∷_, _++_, map}
 use native.Mathlib.Omega.{arith}
 use borrow.Rule.Slice.PartMut.{putMid}
@@ -11,13 +11,13 @@ use Rattle.std.specs.Joined.{joined}
 use Rattle.std.proofs.shelf.Counted.{map-counting-more}
 use Rattle.std.proofs.shelf.Lists.{append-nil, append-assoc, length-append, take-at, drop-at, drop-all, drop-drop, length-drop, take-rest}
 use Rattle.wire.specs.declared.refusal.Refusal.{Refusal}
-use Rattle.packet.specs.Packets.{PacketValue, In-range, Numbered, Encodes, canonical, size-of, zeros-of}
+use Rattle.packet.specs.Packets.{PacketValue, In-range, Encodes, canonical, size-of, zeros-of}
 use Rattle.packet.specs.Datagrams.{Refused}
 use Rattle.packet.specs.Writing.{Short, Unwritten}
 use Rattle.packet.proofs.Flaws.{flawed-none}
 use Rattle.packet.proofs.Values.{padded, length-canonical}
 use Rattle.sender.specs.Packets.{bytes-of}
-use Rattle.sender.specs.Parts.{packet-after, run-of}
+use Rattle.sender.specs.Parts.{packet-after}
 use Rattle.sender.proofs.Cuts.{one-more, length-cut}
 
 pub encoded : (v : PacketValue) → In-range v → Encodes v (canonical v)

@@ -3,8 +3,8 @@ use mathlib.Core.Path.{_≡_, refl, sym, ap, subst, _∙_}
 use mathlib.Core.Logic.{⊎-elim}
 use mathlib.Core.List.{List, [], _∷_, _++_}
 use native.Mathlib.Omega.{arith}
-use Prim.Native.Nat.{ℕ, _+_, _^_, _≤_, _<_}
-use lib.ListN.{length, getD, drop}
+use Prim.Native.Nat.{ℕ, _≤_, _<_}
+use lib.ListN.{length, getD}
 use Rattle.std.proofs.shelf.Lists.{append-cancel-left, length-append, length-push, getD-append-left, getD-push}
 use Rattle.std.proofs.shelf.Tests.{cases-lt}
 use Rattle.wire.specs.declared.order.ByteOrder.the-variants.{Big}
@@ -12,7 +12,7 @@ use Rattle.wire.specs.Numbers.{digits, number-of}
 use Rattle.wire.proofs.Fronts.{elements, all-elements}
 use Rattle.wire.proofs.Numbers.{length-digits, number-digits}
 use Rattle.sender.specs.Limits.{id-length, serial-count}
-use Rattle.sender.specs.Ids.{id-of, Issuing, Issued, Unissued, Issues, issue-none, issue-more, issue-refused, Ids-in-order, Issues-in-order}
+use Rattle.sender.specs.Ids.{id-of, Issuing, Issued, Issues, issue-none, issue-more, issue-refused, Issues-in-order}
 
 written-out : (w n : ℕ) (xs : List ℕ) → xs ≡ digits Big w n → elements w 0 xs ≡ digits Big w n
 written-out w n xs e = sym (all-elements w xs (ap length e ∙ length-digits Big w n)) ∙ e

@@ -2,18 +2,18 @@
 use mathlib.Core.Path.{_≡_, refl, sym, ap, subst, _∙_}
 use mathlib.Core.List.{List, [], _∷_, _++_, map}
 use native.Mathlib.Omega.{arith}
-use native.Mathlib.Nat.{zero-add, zero-div}
-use Prim.Native.Nat.{ℕ, zero, suc, _+_, _-_, _*_, _≤_, _<_}
+use native.Mathlib.Nat.{zero-div}
+use Prim.Native.Nat.{ℕ, zero, suc, _+_, _*_, _<_}
 use lib.ListN.{length, take, drop}
 use Rattle.std.specs.Iters.{counting}
 use Rattle.std.specs.Joined.{joined}
 use Rattle.std.proofs.shelf.Counted.{map-counting-more}
-use Rattle.std.proofs.shelf.Lists.{append-nil, append-assoc, map-append, take-at, joined-more}
-use Rattle.packet.specs.Packets.{PacketValue, canonical, size-of}
+use Rattle.std.proofs.shelf.Lists.{map-append, take-at, joined-more}
+use Rattle.packet.specs.Packets.{canonical, size-of}
 use Rattle.packet.proofs.Values.{length-canonical}
-use Rattle.sender.specs.Packets.{Plan, Lawful-plan, packet-count, packet-at, packets-from, packets-of, bytes-of}
-use Rattle.sender.specs.Sending.{Sending, new-sending, Took, Grown, Added, Ended, Final, sure, newly, full-size, final-packet}
-use Rattle.sender.specs.Runs.{whole, Sends, send-none, send-more, send-refused, Portions-sent, Portions-join}
+use Rattle.sender.specs.Packets.{Plan, Lawful-plan, packet-at, packets-from, packets-of, bytes-of}
+use Rattle.sender.specs.Sending.{Sending, new-sending, Took, Grown, Added, Ended, sure, newly, full-size, final-packet}
+use Rattle.sender.specs.Runs.{whole, Sends, send-none, send-more, send-refused, Portions-join}
 use Rattle.sender.proofs.Buffers.{bytes-none, bytes-one, bytes-join, length-bytes}
 use Rattle.sender.proofs.Messages.{count-sure, same-run, same-sure, size-sure}
 use Rattle.sender.proofs.Portions.{sure-more}

@@ -1,13 +1,13 @@
 -- The packets of a message, as it grows.
 use mathlib.Core.Path.{_≡_, refl, sym, ap, subst, _∙_}
 use mathlib.Core.Logic.{inl, inr}
-use mathlib.Core.Bool.{Bool, true, false}
-use mathlib.Core.List.{List, [], _∷_, _++_, map}
+use mathlib.Core.Bool.{Bool, false}
+use mathlib.Core.List.{List, _++_, map}
 use native.Mathlib.Omega.{arith}
-use native.Mathlib.Nat.{add-mul, add-mul-div-right, div-eq-of-lt, zero-div}
+use native.Mathlib.Nat.{add-mul, add-mul-div-right, zero-div}
 use Prim.Native.Nat.{ℕ, _+_, _-_, _*_, _/_, _≤_, _<_}
 use lib.Dec.{eqb}
-use lib.ListN.{length, take, drop, getD}
+use lib.ListN.{length, take, drop}
 use Rattle.std.specs.Iters.{counting}
 use Rattle.std.proofs.shelf.Counted.{length-map-counting, getD-map-counting}
 use Rattle.std.proofs.shelf.Lists.{drop-drop, drop-append-le, take-append-le, length-append, length-drop, ext-getD}
@@ -16,7 +16,7 @@ use Rattle.std.proofs.shelf.Ways.{tells}
 use Rattle.wire.specs.Limits.{max-packets}
 use Rattle.packet.specs.Packets.{PacketValue, In-range, size-of, body-start}
 use Rattle.sender.specs.Limits.{id-length, front-length, most-length}
-use Rattle.sender.specs.Packets.{Plan, packet-count, packet-with, packet-at, packets-from}
+use Rattle.sender.specs.Packets.{Plan, packet-count, packet-with, packet-at}
 use Rattle.sender.specs.Parts.{packet-after, run-of}
 use Rattle.sender.specs.Sending.{sure, full-size}
 use Rattle.sender.proofs.Cuts.{one-more, within-more, few-more, quotient-low, quotient-high, length-cut}

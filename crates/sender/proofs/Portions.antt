@@ -1,11 +1,11 @@
 -- What a sender holds, before and after a portion.
-use mathlib.Core.Path.{_≡_, refl, sym, ap, subst, _∙_}
+use mathlib.Core.Path.{_≡_, sym, ap, subst, _∙_}
 use mathlib.Core.Logic.{inl, inr}
-use mathlib.Core.List.{List, [], _∷_, _++_, map}
+use mathlib.Core.List.{List, _++_, map}
 use native.Mathlib.Omega.{arith}
 use native.Mathlib.Nat.{add-mul, add-mul-div-right, add-zero, div-eq-of-lt, zero-div}
 use Prim.Native.Nat.{ℕ, _+_, _-_, _*_, _/_, _≤_, _<_}
-use lib.ListN.{length, take, drop}
+use lib.ListN.{length, drop}
 use Rattle.std.specs.Iters.{counting}
 use Rattle.std.proofs.shelf.Lists.{drop-drop, drop-append-le, length-append, length-drop}
 use Rattle.std.proofs.shelf.Tests.{cases-lt}
@@ -13,7 +13,7 @@ use Rattle.wire.specs.declared.refusal.Refusal.{Refusal}
 use Rattle.wire.specs.declared.refusal.Fault.the-variants.{MessageLength, BufferLength}
 use Rattle.packet.specs.Packets.{PacketValue}
 use Rattle.sender.specs.Refusals.{Sender-refusal}
-use Rattle.sender.specs.Packets.{Plan, packet-at, packets-from, bytes-of}
+use Rattle.sender.specs.Packets.{packet-at, packets-from, bytes-of}
 use Rattle.sender.specs.Sending.{Sending, Took, Grown, Add-flaw, long-message, short-buffer, sure, newly, full-size}
 use Rattle.sender.proofs.Cuts.{quotient-low}
 use Rattle.sender.proofs.Buffers.{bytes-none}

@@ -1,10 +1,10 @@
 -- What the tail holds, before and after a portion.
-use mathlib.Core.Path.{_≡_, refl, sym, ap, subst, _∙_}
-use mathlib.Core.List.{List, [], _∷_, _++_}
+use mathlib.Core.Path.{_≡_, sym, ap, _∙_}
+use mathlib.Core.List.{List, _++_}
 use native.Mathlib.Omega.{arith}
-use Prim.Native.Nat.{ℕ, _+_, _-_, _*_, _≤_, _<_}
+use Prim.Native.Nat.{ℕ, _+_, _-_, _≤_}
 use lib.ListN.{length, take, drop}
-use Rattle.std.proofs.shelf.Lists.{drop-drop, take-append-drop, length-take-le, length-drop, length-append, take-at, drop-at, append-assoc, take-rest}
+use Rattle.std.proofs.shelf.Lists.{drop-drop, take-append-drop, length-take-le, length-drop, length-append, take-at, drop-at, append-assoc}
 
 module _ (L h : ℕ) (t q : List ℕ) (long : length (take h t) ≡ h) where
   -- a portion that the tail has room for

@@ -3,7 +3,7 @@ ghost use mathlib.Core.Path.{_≡_};
 ghost use Rattle.std.specs.Results.{Cases};
 ghost use Rattle.sender.specs.Sending.{Ended, Unended};
 ghost use Rattle.sender.specs.States.{sending};
-use crate::open::BODY_START;
+use crate::limits::FRONT_LENGTH;
 use crate::parts::put_packet;
 use crate::parts::tail_packet;
 use crate::refusal::refused;
@@ -35,7 +35,7 @@ impl ClosedSender {
         if held == 0 {
             return Err(refused(Fault::EmptyMessage));
         }
-        if buffer.len() < BODY_START + held {
+        if buffer.len() < FRONT_LENGTH + held {
             return Err(refused(Fault::BufferLength));
         }
         let last = tail_packet(state, true, held);

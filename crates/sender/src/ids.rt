@@ -2,15 +2,11 @@
 ghost use mathlib.Core.Path.{_≡_};
 ghost use Rattle.std.specs.Results.{Cases};
 ghost use Rattle.sender.specs.Ids.{id-of, issuing, new-issuing, Issued, Unissued, Issues-in-order};
+use crate::limits::ID_LENGTH;
+use crate::limits::SERIAL_COUNT;
 use crate::refusal::refused;
 use wire::refusal::Fault;
 use wire::refusal::Refusal;
-
-/// The length of an id: eight bytes of the node and four of the serial.
-pub const ID_LENGTH: usize = 12;
-
-/// The last serial that an issuer gives.
-pub const LAST_SERIAL: u64 = 4_294_967_295;
 
 /// Gives the ids of one node's messages, each once.
 #[derive(Drop)]
@@ -49,7 +45,7 @@ impl Issuer {
             (λ t. Issued (issuing (now (self .entry))) (t .id) (issuing (now (self .exit))))
             (λ e. Unissued (issuing (now (self .entry))) e (issuing (now (self .exit)))) ⌝ }
     {
-        if self.next > LAST_SERIAL {
+        if self.next >= SERIAL_COUNT {
             return Err(refused(Fault::SerialsSpent));
         }
         let id = id_of(self.node, self.next as u32);

@@ -6,18 +6,12 @@ ghost use Rattle.wire.specs.declared.refusal.Fault.the-variants.{PortionLength}
 ghost use Rattle.sender.specs.Limits.{least-length, most-length, length-step};
 ghost use Rattle.sender.specs.Lengths.{Lawful-length};
 ghost use Rattle.sender.specs.Refusals.{Sender-refusal};
+use crate::limits::LENGTH_STEP;
+use crate::limits::MAX_LENGTH;
+use crate::limits::MIN_LENGTH;
 use crate::refusal::refused;
 use wire::refusal::Fault;
 use wire::refusal::Refusal;
-
-/// The least body length.
-pub const MIN_LENGTH: usize = 16;
-
-/// The greatest body length. With the id of a ticket it fills a datagram.
-pub const MAX_LENGTH: usize = 1440;
-
-/// A body length is a multiple of this.
-pub const LENGTH_STEP: usize = 8;
 
 /// How many bytes of the message each packet but the last carries.
 #[derive(Clone, Copy)]

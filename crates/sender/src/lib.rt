@@ -2,6 +2,7 @@
 pub mod closed;
 pub mod ids;
 pub mod length;
+pub mod limits;
 pub mod open;
 mod parts;
 mod refusal;

@@ -11,7 +11,8 @@ ghost use Rattle.sender.specs.States.{sending};
 use crate::closed::ClosedSender;
 use crate::ids::Ticket;
 use crate::length::BodyLength;
-use crate::length::MAX_LENGTH;
+use crate::limits::FRONT_LENGTH;
+use crate::limits::MAX_LENGTH;
 use crate::parts::put;
 use crate::parts::put_run;
 use crate::parts::tail_packet;
@@ -21,9 +22,6 @@ use wire::limits::MAX_PACKETS;
 use wire::order::ByteOrder;
 use wire::refusal::Fault;
 use wire::refusal::Refusal;
-
-/// Where the body begins in each packet: after the header and the id of a ticket.
-pub const BODY_START: usize = 32;
 
 /// Takes a message in portions, and writes each packet as soon as it is known not to be the last.
 #[derive(Drop)]
@@ -96,7 +94,7 @@ impl OpenSender {
             return Ok(0);
         }
         let count = followed(cut, total);
-        if buffer.len() < count * (BODY_START + cut) {
+        if buffer.len() < count * (FRONT_LENGTH + cut) {
             return Err(refused(Fault::BufferLength));
         }
         let begin = cut - held;

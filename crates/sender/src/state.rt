@@ -4,8 +4,8 @@ ghost use Prim.Native.Nat.{_<_, _≤_};
 ghost use lib.ListN.{length};
 ghost use Rattle.wire.specs.Limits.{max-packets};
 ghost use Rattle.sender.specs.Limits.{id-length, least-length, most-length};
-use crate::ids::ID_LENGTH;
-use crate::length::MAX_LENGTH;
+use crate::limits::ID_LENGTH;
+use crate::limits::MAX_LENGTH;
 use wire::order::ByteOrder;
 
 /// How the message is sent, and what of it is not written yet.

@@ -4,7 +4,7 @@ use mathlib.Core.List.{[], _∷_, _++_}
 use Prim.Native.Nat.{_-_}
 use lib.ListN.{length, take, drop}
 use Rattle.std.proofs.shelf.Lists.{take-rest, length-drop}
-use Rattle.packet.specs.Packets.{shown, canonical}
+use Rattle.packet.specs.Packets.{shown}
 use Rattle.packet.proofs.Values.{length-canonical}
 use Rattle.sender.specs.Packets.{bytes-of}
 use Rattle.sender.proofs.Buffers.{unwritten-never, bytes-one, put-from}

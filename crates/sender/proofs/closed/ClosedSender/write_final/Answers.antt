@@ -1,10 +1,9 @@
 use native.Mathlib.Omega.{arith}
-use mathlib.Core.Path.{_≡_, refl, sym, ap, _∙_}
+use mathlib.Core.Path.{_≡_, refl, sym}
 use mathlib.Core.Bool.{true}
-use Prim.Native.Nat.{_+_, _≤_, _<_}
 use lib.ListN.{length, take}
 use Rattle.std.proofs.shelf.Lists.{length-take-le}
-use Rattle.packet.specs.Packets.{shown, size-of}
+use Rattle.packet.specs.Packets.{shown}
 use Rattle.sender.specs.Sending.{no-message, short-end}
 use Rattle.sender.specs.States.{sending}
 use Rattle.sender.proofs.Messages.{size-with, in-range-with}
