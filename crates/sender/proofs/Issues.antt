@@ -3,16 +3,16 @@ use mathlib.Core.Path.{_≡_, refl, sym, ap, subst, _∙_}
 use mathlib.Core.Logic.{⊎-elim}
 use mathlib.Core.List.{List, [], _∷_, _++_}
 use native.Mathlib.Omega.{arith}
-use Prim.Native.Nat.{ℕ, _≤_, _<_}
-use lib.ListN.{length, getD}
-use Rattle.std.proofs.shelf.Lists.{append-cancel-left, length-append, length-push, getD-append-left, getD-push}
+use Prim.Native.Nat.{ℕ, _^_, _≤_, _<_}
+use lib.ListN.{length, take, drop, getD}
+use Rattle.std.proofs.shelf.Lists.{append-cancel-left, take-at, drop-at, length-push, getD-append-left, getD-push}
 use Rattle.std.proofs.shelf.Tests.{cases-lt}
 use Rattle.wire.specs.declared.order.ByteOrder.the-variants.{Big}
 use Rattle.wire.specs.Numbers.{digits, number-of}
 use Rattle.wire.proofs.Fronts.{elements, all-elements}
 use Rattle.wire.proofs.Numbers.{length-digits, number-digits}
-use Rattle.sender.specs.Limits.{id-length, serial-count}
-use Rattle.sender.specs.Ids.{id-of, Issuing, Issued, Issues, issue-none, issue-more, issue-refused, Issues-in-order}
+use Rattle.sender.specs.Limits.{serial-count}
+use Rattle.sender.specs.Ids.{id-of, Ids-differ, Issuing, Issued, Issues, issue-none, issue-more, issue-refused, Issues-in-order}
 
 written-out : (w n : ℕ) (xs : List ℕ) → xs ≡ digits Big w n → elements w 0 xs ≡ digits Big w n
 written-out w n xs e = sym (all-elements w xs (ap length e ∙ length-digits Big w n)) ∙ e
@@ -22,15 +22,22 @@ pub id-is : (n k : ℕ) (ns ks : List ℕ) → ns ≡ digits Big 8 n → ks ≡ 
 unfolding id-of
 id-is n k ns ks en ek = let a = written-out 8 n ns en in let b = written-out 4 k ks ek in cc
 
-pub length-id : (n k : ℕ) → length (id-of n k) ≡ id-length
-unfolding id-of
-length-id n k = let a = length-digits Big 8 n in let b = length-digits Big 4 k in rw length-append (omega arith)
+same-number : (w j k : ℕ) → j < 256 ^ w → k < 256 ^ w → digits Big w j ≡ digits Big w k → j ≡ k
+same-number w j k hj hk d = sym (number-digits Big w j hj) ∙ (ap (number-of Big) d ∙ number-digits Big w k hk)
 
+pub ids-differ : Ids-differ
+unfolding id-of
+ids-differ n o j k hn ho hj hk e =
+    let front : digits Big 8 n ≡ digits Big 8 o =
+    sym (take-at (digits Big 8 n) (digits Big 4 j) 8 (length-digits Big 8 n)) ∙ (ap (take 8) e ∙ take-at (digits Big 8 o) (digits Big 4 k) 8 (length-digits Big 8 o)) in
+    let back : digits Big 4 j ≡ digits Big 4 k =
+    sym (drop-at (digits Big 8 n) (digits Big 4 j) 8 (length-digits Big 8 n)) ∙ (ap (drop 8) e ∙ drop-at (digits Big 8 o) (digits Big 4 k) 8 (length-digits Big 8 o)) in
+    (same-number 8 n o hn ho front, same-number 4 j k hj hk back)
+
+-- one node's serial, by the id
 one-serial : (n j k : ℕ) → j < serial-count → k < serial-count → id-of n j ≡ id-of n k → j ≡ k
 unfolding id-of
-one-serial n j k hj hk e =
-    let d : digits Big 4 j ≡ digits Big 4 k = append-cancel-left (digits Big 8 n) (digits Big 4 j) (digits Big 4 k) e in
-    sym (number-digits Big 4 j hj) ∙ (ap (number-of Big) d ∙ number-digits Big 4 k hk)
+one-serial n j k hj hk e = same-number 4 j k hj hk (append-cancel-left (digits Big 8 n) (digits Big 4 j) (digits Big 4 k) e)
 
 -- an issuer after a run
 record Counted (n : ℕ) (ids : List (List ℕ)) (s : Issuing) : Type 0 where

@@ -15,7 +15,7 @@ use Rattle.sender.specs.Packets.{Plan, Lawful-plan, packet-at, packets-from, p
 use Rattle.sender.specs.Sending.{Sending, new-sending, Took, Grown, Added, Ended, sure, newly, full-size, final-packet}
 use Rattle.sender.specs.Runs.{whole, Sends, send-none, send-more, send-refused, Portions-join}
 use Rattle.sender.proofs.Buffers.{bytes-none, bytes-one, bytes-join, length-bytes}
-use Rattle.sender.proofs.Messages.{count-sure, same-run, same-sure, size-sure}
+use Rattle.sender.proofs.Messages.{cut-positive, count-sure, same-run, same-sure, size-sure}
 use Rattle.sender.proofs.Portions.{sure-more}
 
 counting-join : (a k n : ℕ) → counting a (k + n) ≡ counting a k ++ counting (a + k) n
@@ -47,20 +47,17 @@ record So-far (p : Plan) (m out : List ℕ) (s : Sending) : Type 0 where
   out-is : out ≡ bytes-of (packets-from p m 0 (s .sent))
 
 module _ (p : Plan) (lawful : Lawful-plan p) where
-  positive : 0 < p .cut
-  positive = let l = lawful .lawful-cut .at-least in omega arith
-
   -- what one call writes, for a sender of this plan
   written : {s : Sending} {m q was new : List ℕ} {n : ℕ} {t : Sending} → s .plan ≡ p → Took s m → Grown s m q was new n t
       → (take (n * full-size p) new ≡ bytes-of (packets-from p (m ++ q) (s .sent) n)) × (s .sent + n ≡ sure (p .cut) (length (m ++ q)))
   written {s} {m} {q} {was} {new} {n} {t} e k g =
       let P : Plan → Type 0 = λ y. (n ≡ newly y m q) × (new ≡ bytes-of (packets-from y (m ++ q) (s .sent) n) ++ drop (n * full-size y) was) × (s .sent ≡ sure (y .cut) (length m)) × (sure (y .cut) (length (m ++ q)) ≡ s .sent + sure (y .cut) (length (s .unsent) + length q)) in
-      let b = subst P e (g .number-is, g .bytes-are, k .sent-is, sure-more s m (let Q : Plan → Type 0 = λ y. 0 < y .cut in subst Q (sym e) positive) k q) in
+      let b = subst P e (g .number-is, g .bytes-are, k .sent-is, sure-more s m (let Q : Plan → Type 0 = λ y. 0 < y .cut in subst Q (sym e) (cut-positive p lawful)) k q) in
       let b0 = b .0 in
       let b2 = b .2 in
       let b3 = b .3 in
       let total : s .sent + n ≡ sure (p .cut) (length (m ++ q)) = omega arith in
-      let l = length-bytes (packet-at p (m ++ q)) (full-size p) (s .sent) n (λ i h. size-sure p (m ++ q) i positive (lawful .id-size) (omega arith)) in
+      let l = length-bytes (packet-at p (m ++ q)) (full-size p) (s .sent) n (λ i h. size-sure p (m ++ q) i (cut-positive p lawful) (lawful .id-size) (omega arith)) in
       (ap (take (n * full-size p)) (b .1) ∙ take-at (bytes-of (packets-from p (m ++ q) (s .sent) n)) (drop (n * full-size p) was) (n * full-size p) l, total)
 
   so-far-more : {s : Sending} {m out q was new : List ℕ} {n : ℕ} {t : Sending} → So-far p m out s → Added s q was new n t
@@ -73,7 +70,7 @@ module _ (p : Plan) (lawful : Lawful-plan p) where
       let c = s .sent in
       let cm : c ≡ sure (p .cut) (length m) = k .sent-is ∙ ap (λ y. sure (y .cut) (length m)) (b .same-plan) in
       let ct : c + n ≡ t .sent = w .1 ∙ sym (g .took .sent-is ∙ ap (λ y. sure (y .cut) (length (m ++ q))) ep) in
-      let old : packets-from p m 0 c ≡ packets-from p (m ++ q) 0 c = same-run (packet-at p m) (packet-at p (m ++ q)) 0 0 c (λ j h. same-sure p m q (0 + j) positive (omega arith)) in
+      let old : packets-from p m 0 c ≡ packets-from p (m ++ q) 0 c = same-run (packet-at p m) (packet-at p (m ++ q)) 0 0 c (λ j h. same-sure p m q (0 + j) (cut-positive p lawful) (omega arith)) in
       record {
         same-plan = ep;
         took = g .took;
@@ -100,7 +97,7 @@ module _ (p : Plan) (lawful : Lawful-plan p) where
       let P : Plan → Type 0 = λ y. (n ≡ size-of (final-packet y m)) × (new ≡ canonical (final-packet y m) ++ drop n was) × (s .sent ≡ sure (y .cut) (length m)) in
       let w = subst P (b .same-plan) (f .size-is, f .bytes-are, b .took .sent-is) in
       let last : take n new ≡ bytes-of (v ∷ []) = ap (take n) (w .1) ∙ (take-at (canonical v) (drop n was) n (length-canonical v ∙ sym (w .0)) ∙ sym (bytes-one v)) in
-      let c = count-sure L (length m) positive (f .some-message) in
+      let c = count-sure L (length m) (cut-positive p lawful) (f .some-message) in
       let more : packets-from p m 0 (K + 1) ≡ packets-from p m 0 K ++ v ∷ [] = map-counting-more (packet-at p m) 0 K K (omega arith) in
       ap (λ y. y ++ take n new) (b .out-is ∙ ap (λ i. bytes-of (packets-from p m 0 i)) (w .2))
       ∙ (ap (λ y. bytes-of (packets-from p m 0 K) ++ y) last

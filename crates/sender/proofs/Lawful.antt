@@ -14,7 +14,7 @@ use Rattle.sender.specs.Packets.{Plan, Lawful-plan, packet-count, packet-at, p
 use Rattle.sender.specs.Sending.{sure}
 use Rattle.sender.proofs.Cuts.{one-more, few-more, quotient-low, quotient-high}
 use Rattle.sender.proofs.Buffers.{encoded}
-use Rattle.sender.proofs.Messages.{count-sure, in-range-with}
+use Rattle.sender.proofs.Messages.{cut-positive, count-sure, in-range-with}
 
 -- cuts that follow one another, joined
 bodies-join : (p : Plan) (m : List ℕ) (a n : ℕ) → joined (λ v. v .body) (packets-from p m a n) ≡ take (n * p .cut) (drop (a * p .cut) m)
@@ -33,11 +33,8 @@ bodies-join p m a (suc n) =
     ∙ (take-append-drop L (take (L + n * L) xs) ∙ ap (λ i. take i xs) len)))
 
 module _ (p : Plan) (m : List ℕ) (h : Lawful-plan p) (some : 0 < length m) (fits : length m ≤ max-packets * p .cut) where
-  positive : 0 < p .cut
-  positive = let l = h .lawful-cut .at-least in omega arith
-
   count-is : packet-count (p .cut) (length m) ≡ sure (p .cut) (length m) + 1
-  count-is = count-sure (p .cut) (length m) positive some
+  count-is = count-sure (p .cut) (length m) (cut-positive p h) some
 
   few : packet-count (p .cut) (length m) ≤ max-packets
   few =
@@ -77,7 +74,7 @@ module _ (p : Plan) (m : List ℕ) (h : Lawful-plan p) (some : 0 < length m) (fi
       let n = packet-count (p .cut) (length m) in
       let l = length-map-counting (packet-at p m) 0 n in
       let f = few in
-      let hi = quotient-high (length m - 1) (p .cut) positive in
+      let hi = quotient-high (length m - 1) (p .cut) (cut-positive p h) in
       let e = ap (λ i. i * p .cut) count-is ∙ one-more (sure (p .cut) (length m)) (p .cut) in
       let all : length m ≤ n * p .cut = omega arith in
       record {

@@ -16,10 +16,13 @@ use Rattle.std.proofs.shelf.Ways.{tells}
 use Rattle.wire.specs.Limits.{max-packets}
 use Rattle.packet.specs.Packets.{PacketValue, In-range, size-of, body-start}
 use Rattle.sender.specs.Limits.{id-length, front-length, most-length}
-use Rattle.sender.specs.Packets.{Plan, packet-count, packet-with, packet-at}
+use Rattle.sender.specs.Packets.{Plan, Lawful-plan, packet-count, packet-with, packet-at}
 use Rattle.sender.specs.Parts.{packet-after, run-of}
 use Rattle.sender.specs.Sending.{sure, full-size}
 use Rattle.sender.proofs.Cuts.{one-more, within-more, few-more, quotient-low, quotient-high, length-cut}
+
+pub cut-positive : (p : Plan) → Lawful-plan p → 0 < p .cut
+cut-positive p h = let l = h .lawful-cut .at-least in omega arith
 
 -- the last packet is the one after those that are sure
 pub count-sure : (L n : ℕ) → 0 < L → 0 < n → packet-count L n ≡ sure L n + 1

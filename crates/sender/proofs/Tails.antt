@@ -5,6 +5,11 @@ use native.Mathlib.Omega.{arith}
 use Prim.Native.Nat.{ℕ, _+_, _-_, _≤_}
 use lib.ListN.{length, take, drop}
 use Rattle.std.proofs.shelf.Lists.{drop-drop, take-append-drop, length-take-le, length-drop, length-append, take-at, drop-at, append-assoc}
+use Rattle.sender.specs.declared.state.State.{State}
+
+-- what is held stands in the tail
+pub held-long : (st : State) → length (take (st .held) (st .tail)) ≡ st .held
+held-long st = length-take-le (st .held) (st .tail) (omega arith)
 
 module _ (L h : ℕ) (t q : List ℕ) (long : length (take h t) ≡ h) where
   -- a portion that the tail has room for

@@ -8,12 +8,17 @@ use Rattle.wire.specs.declared.refusal.Fault.the-variants.{SerialsSpent}
 use Rattle.wire.specs.declared.refusal.Refusal.{Refusal}
 use Rattle.wire.specs.Numbers.{digits}
 use Rattle.sender.specs.declared.ids.Issuer.{Issuer}
-use Rattle.sender.specs.Limits.{serial-count}
+use Rattle.sender.specs.Limits.{node-count, serial-count}
 use Rattle.sender.specs.Refusals.{Sender-refusal}
 
 -- the id of a node's message: the node, then the serial
 unfoldable pub id-of : ℕ → ℕ → List ℕ
 id-of n k = digits Big 8 n ++ digits Big 4 k
+
+-- two ids are the same only for the same node and the same serial
+abbrev pub Ids-differ : Type 0
+Ids-differ = (n o j k : ℕ) → n < node-count → o < node-count → j < serial-count → k < serial-count
+    → id-of n j ≡ id-of o k → (n ≡ o) × (j ≡ k)
 
 -- an issuer: for which node, and how many ids it gave
 pub record Issuing : Type 0 where

@@ -16,6 +16,10 @@ length-step = 8
 abbrev pub id-length : ℕ
 id-length = 12
 
+-- how many nodes there are
+abbrev pub node-count : ℕ
+node-count = 2 ^ 64
+
 -- how many serials there are, the first of them 0
 abbrev pub serial-count : ℕ
 serial-count = 2 ^ 32

@@ -18,6 +18,7 @@ pub struct ClosedSender {
 }
 
 impl ClosedSender {
+    // The sender of a message that is whole.
     pub(crate) fn of(state: State) -> ClosedSender
         ensures { λ r. ⌜ r .state ≡ state ⌝ }
     {

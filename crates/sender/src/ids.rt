@@ -1,7 +1,7 @@
 // The ids of messages. No two tickets of an issuer have the same id.
 ghost use mathlib.Core.Path.{_≡_};
 ghost use Rattle.std.specs.Results.{Cases};
-ghost use Rattle.sender.specs.Ids.{id-of, issuing, new-issuing, Issued, Unissued, Issues-in-order};
+ghost use Rattle.sender.specs.Ids.{id-of, Ids-differ, issuing, new-issuing, Issued, Unissued, Issues-in-order};
 use crate::limits::ID_LENGTH;
 use crate::limits::SERIAL_COUNT;
 use crate::refusal::refused;
@@ -35,6 +35,7 @@ impl Issuer {
     pub fn new(node: u64) -> Issuer
         ensures fresh { λ r. ⌜ issuing r ≡ new-issuing node ⌝ }
         ensures in_order { λ _. ⌜ Issues-in-order ⌝ }
+        ensures ids_differ { λ _. ⌜ Ids-differ ⌝ }
     {
         Issuer { node, next: 0 }
     }

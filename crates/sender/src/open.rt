@@ -74,7 +74,7 @@ impl OpenSender {
     }
 
     /// Takes a portion of the message, and writes the packets that are now known not to be the last,
-    /// one after the other from the buffer's start. Answers how many.
+    /// one after the other from the buffer's start. Answers how many. A refused portion changes nothing.
     pub fn add(&mut self, portion: &[u8], buffer: &mut [u8]) -> Result<usize, Refusal>
         ensures { λ r. ⌜ Cases r
             (λ n. Added (sending (now (self .entry) .state)) (now (portion .entry)) (now (buffer .entry)) (now (buffer .exit)) n (sending (now (self .exit) .state)))
@@ -97,17 +97,17 @@ impl OpenSender {
         if buffer.len() < count * (FRONT_LENGTH + cut) {
             return Err(refused(Fault::BufferLength));
         }
-        let begin = cut - held;
-        put(&mut state.tail, held, &portion[0..begin]);
+        let missing = cut - held;
+        put(&mut state.tail, held, &portion[0..missing]);
         let first = tail_packet(state, false, cut);
-        put_run(buffer, &first, &portion[begin..], count);
+        put_run(buffer, &first, &portion[missing..], count);
         put(&mut state.tail, 0, &portion[count * cut - held..]);
         state.held = total - count * cut;
         state.sent = sent + count;
         Ok(count)
     }
 
-    /// Ends the message.
+    /// Ends the message. What is left of it is its last packet.
     pub fn close(self) -> ClosedSender
         ensures { λ r. ⌜ sending (r .state) ≡ sending (self .state) ⌝ }
     {

@@ -14,7 +14,7 @@ use crate::state::State;
 use packet::Packet;
 
 // The next packet, whose body is the first n bytes of the tail.
-pub fn tail_packet(state: &State, stop: bool, n: usize) -> Packet
+pub(crate) fn tail_packet(state: &State, stop: bool, n: usize) -> Packet
     requires { ⌜ n ≤ most-length ⌝ }
     ensures { λ r. ⌜ shown r ≡ tail-packet (now (state .entry)) stop n ⌝ }
 {
@@ -29,7 +29,7 @@ pub fn tail_packet(state: &State, stop: bool, n: usize) -> Packet
 }
 
 // Writes `part` at `at`.
-pub fn put(buffer: &mut [u8], at: usize, part: &[u8])
+pub(crate) fn put(buffer: &mut [u8], at: usize, part: &[u8])
     requires { ⌜ at + length (now part) ≤ length (now buffer) ⌝ }
     ensures { λ _. ⌜ now (buffer .exit) ≡ take at (now (buffer .entry)) ++ (now (part .entry) ++ drop (at + length (now (part .entry))) (now (buffer .entry))) ⌝ }
 {
@@ -38,7 +38,7 @@ pub fn put(buffer: &mut [u8], at: usize, part: &[u8])
 }
 
 // Writes a packet at `at`, and answers its length.
-pub fn put_packet(buffer: &mut [u8], at: usize, packet: &Packet) -> usize
+pub(crate) fn put_packet(buffer: &mut [u8], at: usize, packet: &Packet) -> usize
     requires range { ⌜ In-range (shown (now packet)) ⌝ }
     requires fits { ⌜ at + size-of (shown (now packet)) ≤ length (now buffer) ⌝ }
     ensures size { λ r. ⌜ r ≡ size-of (shown (now (packet .entry))) ⌝ }
@@ -65,7 +65,7 @@ fn body_at<'a>(first: &'a [u8], rest: &'a [u8], j: usize) -> &'a [u8]
 }
 
 // Writes n packets at the buffer's start: `first`, and those after it, whose bodies are cut from `rest`.
-pub fn put_run<'a>(buffer: &mut [u8], first: &Packet<'a>, rest: &'a [u8], n: usize)
+pub(crate) fn put_run<'a>(buffer: &mut [u8], first: &Packet<'a>, rest: &'a [u8], n: usize)
     requires range { ⌜ In-range (shown (now first)) ⌝ }
     requires uncounted { ⌜ now first .count ≡ 0 ⌝ }
     requires few { ⌜ now first .number + n ≤ max-packets ⌝ }

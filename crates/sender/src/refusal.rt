@@ -5,7 +5,7 @@ use wire::refusal::Layer;
 use wire::refusal::Refusal;
 
 // The refusal for a fault. It points at nothing: the sender reads no bytes of a packet.
-pub fn refused(fault: Fault) -> Refusal
+pub(crate) fn refused(fault: Fault) -> Refusal
     ensures { λ r. ⌜ Sender-refusal fault r ⌝ }
 {
     Refusal {

@@ -10,16 +10,16 @@ use wire::order::ByteOrder;
 
 /// How the message is sent, and what of it is not written yet.
 #[derive(Drop)]
-pub struct State {
+pub(crate) struct State {
     /// The body length.
-    pub cut: usize,
-    pub id: [u8; ID_LENGTH],
-    pub order: ByteOrder,
+    pub(crate) cut: usize,
+    pub(crate) id: [u8; ID_LENGTH],
+    pub(crate) order: ByteOrder,
     /// How many packets are written.
-    pub sent: usize,
+    pub(crate) sent: usize,
     /// How many bytes of the tail came and are not written: at most one body.
-    pub held: usize,
-    pub tail: [u8; MAX_LENGTH],
+    pub(crate) held: usize,
+    pub(crate) tail: [u8; MAX_LENGTH],
     ghost least: { least-length ≤ cut },
     ghost most: { cut ≤ most-length },
     ghost id_size: { length id ≡ id-length },

@@ -1,25 +1,25 @@
 use native.Mathlib.Omega.{arith}
-use mathlib.Core.Path.{_≡_, refl, sym}
+use mathlib.Core.Path.{refl, sym}
 use mathlib.Core.Bool.{true}
-use lib.ListN.{length, take}
-use Rattle.std.proofs.shelf.Lists.{length-take-le}
+use lib.ListN.{take}
 use Rattle.packet.specs.Packets.{shown}
 use Rattle.sender.specs.Sending.{no-message, short-end}
 use Rattle.sender.specs.States.{sending}
 use Rattle.sender.proofs.Messages.{size-with, in-range-with}
+use Rattle.sender.proofs.Tails.{held-long}
 use Rattle.sender.proofs.Finals.{none-unsent, some-message, final-is, final}
 use Rattle.sender.proofs.closed.ClosedSender.write_final.Needs as need
 
 pub returns-then-held-eq0 : need.returns-then-held-eq0
 returns-then-held-eq0 c =
     let st = c .args .self .now .state in
-    let l : length (take (st .held) (st .tail)) ≡ st .held = length-take-le (st .held) (st .tail) (omega arith) in
+    let l = held-long st in
     record { same-buffer = refl; cause = λ m k. no-message (c .refused .ensures) (none-unsent (sending st) m (omega arith) k (omega arith)) }
 
 pub returns-then-buffer-held : need.returns-then-buffer-held
 returns-then-buffer-held c =
     let st = c .args .self .now .state in
-    let l : length (take (st .held) (st .tail)) ≡ st .held = length-take-le (st .held) (st .tail) (omega arith) in
+    let l = held-long st in
     record {
       same-buffer = refl;
       cause = λ m k.
@@ -33,7 +33,7 @@ put-packet-requires c κs =
     let st = c .args .self .now .state in
     let v = shown (c .tail-packet-last .result) in
     let e = c .tail-packet-last .ensures in
-    let l : length (take (st .held) (st .tail)) ≡ st .held = length-take-le (st .held) (st .tail) (omega arith) in
+    let l = held-long st in
     let s = size-with (sending st .plan) true (st .sent) v (take (st .held) (st .tail)) e (st .«id_size») in
     record { range = in-range-with (sending st .plan) true (st .sent) v (take (st .held) (st .tail)) e (st .«id_size») (omega arith) (omega arith) (omega arith); fits = omega arith }
 
@@ -42,7 +42,7 @@ returns c =
     let st = c .args .self .now .state in
     let v = shown (c .tail-packet-last .result) in
     let e = c .tail-packet-last .ensures in
-    let l : length (take (st .held) (st .tail)) ≡ st .held = length-take-le (st .held) (st .tail) (omega arith) in
+    let l = held-long st in
     let s = size-with (sending st .plan) true (st .sent) v (take (st .held) (st .tail)) e (st .«id_size») in
     let z = c .put-packet .ensures .size in
     record { final = λ m k. final (sending st) m (omega arith) k (omega arith) v (c .args .buffer .now) _ _ e z (omega arith) (c .put-packet .ensures .after) }

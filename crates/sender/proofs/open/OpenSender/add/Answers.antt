@@ -15,13 +15,13 @@ use Rattle.sender.specs.States.{sending}
 use Rattle.sender.proofs.Cuts.{few-more}
 use Rattle.sender.proofs.Messages.{sure-packet, run-sure, size-with, in-range-with}
 use Rattle.sender.proofs.Portions.{Moved, moved-none, none-written, grown, message-fits, long-flaw, short-flaw}
-use Rattle.sender.proofs.Tails.{held-more, first-is, first-long, first-rest, rest-held}
+use Rattle.sender.proofs.Tails.{held-long, held-more, first-is, first-long, first-rest, rest-held}
 use Rattle.sender.proofs.open.OpenSender.add.Needs as need
 
 pub returns-then-portion-room : need.returns-then-portion-room
 returns-then-portion-room c =
     let st = c .args .self .now .state in
-    let l : length (take (st .held) (st .tail)) ≡ st .held = length-take-le (st .held) (st .tail) (omega arith) in
+    let l = held-long st in
     record {
       same-sender = refl;
       same-buffer = refl;
@@ -32,7 +32,7 @@ pub returns-then-total-cut : need.returns-then-total-cut
 returns-then-total-cut c =
     let st = c .args .self .now .state in
     let q = c .args .portion .now in
-    let l : length (take (st .held) (st .tail)) ≡ st .held = length-take-le (st .held) (st .tail) (omega arith) in
+    let l = held-long st in
     let g = moved-none (sending st) q _ (omega arith) (omega arith) refl refl (held-more (st .cut) (st .held) (st .tail) q l _ (c .put .ensures)) in
     record {
       same-plan = refl;
@@ -45,7 +45,7 @@ pub returns-then-buffer-count : need.returns-then-buffer-count
 returns-then-buffer-count c =
     let st = c .args .self .now .state in
     let q = c .args .portion .now in
-    let l : length (take (st .held) (st .tail)) ≡ st .held = length-take-le (st .held) (st .tail) (omega arith) in
+    let l = held-long st in
     record {
       same-sender = refl;
       same-buffer = refl;
@@ -97,7 +97,7 @@ returns c =
     let L = st .cut in
     let h = st .held in
     let t = st .tail in
-    let l : length (take h t) ≡ h = length-take-le h t (omega arith) in
+    let l = held-long st in
     let part : take ((L - h) - 0) (drop 0 q) ≡ take (L - h) q = let z : (L - h) - 0 ≡ L - h = omega arith in ap (λ i. take i q) z in
     let body = take L (c .put-2 .last .buffer) in
     let first : body ≡ take h t ++ take (L - h) q = first-is L h t q l (omega arith) (omega arith) (c .put-2 .last .buffer) _ part (c .put-2 .ensures) in
