@@ -10,7 +10,6 @@ use Rattle.std.specs.Iters.{counting}
 use Rattle.std.proofs.shelf.Lists.{drop-drop, drop-append-le, length-append, length-drop}
 use Rattle.std.proofs.shelf.Tests.{cases-lt}
 use Rattle.wire.specs.declared.refusal.Refusal.{Refusal}
-use Rattle.wire.specs.declared.refusal.Fault.the-variants.{MessageLength, BufferLength}
 use Rattle.packet.specs.Packets.{PacketValue}
 use Rattle.sender.specs.Refusals.{Sender-refusal}
 use Rattle.sender.specs.Packets.{packet-at, packets-from, bytes-of}
@@ -120,10 +119,10 @@ module _ (s : Sending) (m : List ℕ) (p : 0 < s .plan .cut) (k : Took s m) wher
     pub message-fits : length q ≤ room → length (m ++ q) ≤ 64 * s .plan .cut
     message-fits h = let l = message-long q in omega arith
 
-    pub long-flaw : (was : List ℕ) {e : Refusal} → Sender-refusal MessageLength e → room < length q → Add-flaw s m q was e
+    pub long-flaw : (was : List ℕ) {e : Refusal} → Sender-refusal 9 e → room < length q → Add-flaw s m q was e
     long-flaw was r h = let l = message-long q in long-message r (omega arith)
 
-    pub short-flaw : (was : List ℕ) (n : ℕ) {e : Refusal} → Sender-refusal BufferLength e → length q ≤ room
+    pub short-flaw : (was : List ℕ) (n : ℕ) {e : Refusal} → Sender-refusal 10 e → length q ≤ room
         → n ≡ sure (s .plan .cut) (length (s .unsent) + length q) → length was < n * full-size (s .plan) → Add-flaw s m q was e
     short-flaw was n r h en w =
         let P : ℕ → Type 0 = λ i. length was < i * full-size (s .plan) in

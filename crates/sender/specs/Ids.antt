@@ -4,7 +4,6 @@ use mathlib.Core.List.{List, [], _∷_, _++_}
 use Prim.Native.Nat.{ℕ, _+_, _<_, _≤_}
 use lib.ListN.{length, getD}
 use Rattle.wire.specs.declared.order.ByteOrder.the-variants.{Big}
-use Rattle.wire.specs.declared.refusal.Fault.the-variants.{SerialsSpent}
 use Rattle.wire.specs.declared.refusal.Refusal.{Refusal}
 use Rattle.wire.specs.Numbers.{digits}
 use Rattle.sender.specs.declared.ids.Issuer.{Issuer}
@@ -41,7 +40,7 @@ pub record Issued (s : Issuing) (new-id : List ℕ) (after : Issuing) : Type 0 w
 -- no id is given: there is no serial left
 pub record Unissued (s : Issuing) (e : Refusal) (after : Issuing) : Type 0 where
   pub none-left : serial-count ≤ s .given
-  pub refusal-is : Sender-refusal SerialsSpent e
+  pub refusal-is : Sender-refusal 14 e
   pub same : after ≡ s
 
 -- calls of one new issuer, one after the other: the ids that it gave, the first of them first, and the issuer after

@@ -3,7 +3,6 @@ use mathlib.Core.Path.{_≡_}
 use mathlib.Core.List.{List, [], _++_}
 use Prim.Native.Nat.{ℕ, _+_, _-_, _*_, _/_, _<_, _≤_}
 use lib.ListN.{length, drop}
-use Rattle.wire.specs.declared.refusal.Fault.the-variants.{MessageLength, BufferLength, EmptyMessage}
 use Rattle.wire.specs.declared.refusal.Refusal.{Refusal}
 use Rattle.wire.specs.Limits.{max-packets}
 use Rattle.packet.specs.Packets.{PacketValue, canonical, size-of}
@@ -52,8 +51,8 @@ pub record Added (s : Sending) (q was new : List ℕ) (n : ℕ) (after : Sending
 
 -- the message would be too long, or, after that, the buffer is too short
 pub data Add-flaw (s : Sending) (m q was : List ℕ) (e : Refusal) : Type 0 where
-  long-message : Sender-refusal MessageLength e → max-packets * s .plan .cut < length (m ++ q) → Add-flaw s m q was e
-  short-buffer : Sender-refusal BufferLength e → length (m ++ q) ≤ max-packets * s .plan .cut
+  long-message : Sender-refusal 9 e → max-packets * s .plan .cut < length (m ++ q) → Add-flaw s m q was e
+  short-buffer : Sender-refusal 10 e → length (m ++ q) ≤ max-packets * s .plan .cut
       → length was < newly (s .plan) m q * full-size (s .plan) → Add-flaw s m q was e
 
 -- the portion q is refused, and nothing changes
@@ -79,8 +78,8 @@ pub record Ended (s : Sending) (was new : List ℕ) (n : ℕ) : Type 0 where
 
 -- there is no message, or, after that, the buffer is too short
 pub data End-flaw (s : Sending) (m was : List ℕ) (e : Refusal) : Type 0 where
-  no-message : Sender-refusal EmptyMessage e → m ≡ [] → End-flaw s m was e
-  short-end : Sender-refusal BufferLength e → 0 < length m → length was < size-of (final-packet (s .plan) m) → End-flaw s m was e
+  no-message : Sender-refusal 11 e → m ≡ [] → End-flaw s m was e
+  short-end : Sender-refusal 10 e → 0 < length m → length was < size-of (final-packet (s .plan) m) → End-flaw s m was e
 
 -- the last packet is refused, and nothing changes
 pub record Unended (s : Sending) (was new : List ℕ) (e : Refusal) : Type 0 where

@@ -2,7 +2,6 @@
 ghost use mathlib.Core.Path.{_≡_};
 ghost use Prim.Native.Nat.{_%_, _≤_};
 ghost use Rattle.std.specs.Results.{Cases};
-ghost use Rattle.wire.specs.declared.refusal.Fault.the-variants.{PortionLength};
 ghost use Rattle.sender.specs.Limits.{least-length, most-length, length-step};
 ghost use Rattle.sender.specs.Lengths.{Lawful-length};
 ghost use Rattle.sender.specs.Refusals.{Sender-refusal};
@@ -25,7 +24,7 @@ pub struct BodyLength {
 impl BodyLength {
     /// A body length, from 16 to 1,440 and a multiple of 8.
     pub fn new(length: usize) -> Result<BodyLength, Refusal>
-        ensures { λ r. ⌜ Cases r (λ b. (b .value ≡ length) × Lawful-length length) (λ e. (Lawful-length length → ⊥) × Sender-refusal PortionLength e) ⌝ }
+        ensures { λ r. ⌜ Cases r (λ b. (b .value ≡ length) × Lawful-length length) (λ e. (Lawful-length length → ⊥) × Sender-refusal 8 e) ⌝ }
     {
         if length < MIN_LENGTH || length > MAX_LENGTH || length % LENGTH_STEP != 0 {
             return Err(refused(Fault::PortionLength));
