@@ -7,3 +7,4 @@ pub mod Tails
 pub mod Finals
 pub mod Joins
 pub mod Lawful
+pub mod Wholes

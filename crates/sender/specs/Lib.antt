@@ -5,5 +5,6 @@ pub mod Ids
 pub mod Packets
 pub mod Sending
 pub mod Runs
+pub mod Messages
 pub mod Parts
 pub mod States

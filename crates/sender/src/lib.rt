@@ -3,6 +3,7 @@ pub mod closed;
 pub mod ids;
 pub mod length;
 pub mod limits;
+pub mod message;
 pub mod open;
 mod parts;
 mod refusal;
