@@ -43,13 +43,12 @@ module _ (s : Sending) (m : List ℕ) (p : 0 < s .plan .cut) (k : Took s m) wher
         ∙ (ap (λ y. packet-with (s .plan) y K (s .unsent)) t ∙ ap (packet-with (s .plan) (eqb (K + 1) (packet-count L (length m))) K) b)
 
     pub final : (v : PacketValue) (was new : List ℕ) (n : ℕ) → v ≡ packet-with (s .plan) true (s .sent) (s .unsent)
-        → n ≡ size-of v → n ≤ length was → new ≡ bytes-of (v ∷ []) ++ drop (0 + n) was → Final s m was new n
-    final v was new n e en f b =
+        → n ≡ size-of v → new ≡ bytes-of (v ∷ []) ++ drop (0 + n) was → Final s m was new n
+    final v was new n e en b =
         let z : 0 + n ≡ n = omega arith in
         let w : v ≡ final-packet (s .plan) m = e ∙ final-is in
         record {
           some-message = some-message;
           size-is = en ∙ ap size-of w;
-          buffer-fits = f;
           bytes-are = b ∙ (ap (λ i. bytes-of (v ∷ []) ++ drop i was) z ∙ (ap (λ y. y ++ drop n was) (bytes-one v) ∙ ap (λ y. canonical y ++ drop n was) w));
         }

@@ -104,14 +104,13 @@ module _ (s : Sending) (m : List ℕ) (p : 0 < s .plan .cut) (k : Took s m) wher
         let z : 0 + j ≡ j = omega arith in
         ap f z ∙ (ap (λ y. sure-packet (s .plan) (s .sent) y j) (sym (unsent-more q)) ∙ sure-is (s .plan) (m ++ q) (s .sent) j p (omega arith)))
 
-    pub grown : (was new : List ℕ) → length (m ++ q) ≤ 64 * s .plan .cut → n * full-size (s .plan) ≤ length was
+    pub grown : (was new : List ℕ) → length (m ++ q) ≤ 64 * s .plan .cut
         → new ≡ bytes-of (map (sure-packet (s .plan) (s .sent) (s .unsent ++ q)) (counting 0 n)) ++ drop (n * full-size (s .plan)) was
         → Grown s m q was new n after
-    grown was new f b e = record {
+    grown was new f e = record {
       took = moved-took;
       message-fits = f;
       number-is = g .number-is ∙ sym (newly-is q);
-      buffer-fits = b;
       bytes-are = e ∙ ap (λ y. bytes-of y ++ drop (n * full-size (s .plan)) was) run-is;
     }
 

@@ -41,12 +41,12 @@ pub record Grown (s : Sending) (m q was new : List ℕ) (n : ℕ) (after : Sendi
   pub took : Took after (m ++ q)
   pub message-fits : length (m ++ q) ≤ max-packets * s .plan .cut
   pub number-is : n ≡ newly (s .plan) m q
-  pub buffer-fits : n * full-size (s .plan) ≤ length was
   pub bytes-are : new ≡ bytes-of (packets-from (s .plan) (m ++ q) (s .sent) n) ++ drop (n * full-size (s .plan)) was
 
 -- the portion q is taken, whatever message came before
 pub record Added (s : Sending) (q was new : List ℕ) (n : ℕ) (after : Sending) : Type 0 where
   pub same-plan : after .plan ≡ s .plan
+  pub buffer-fits : n * full-size (s .plan) ≤ length was
   pub grown : (m : List ℕ) → Took s m → Grown s m q was new n after
 
 -- the message would be too long, or, after that, the buffer is too short
@@ -69,11 +69,11 @@ final-packet p m = packet-at p m (sure (p .cut) (length m))
 pub record Final (s : Sending) (m was new : List ℕ) (n : ℕ) : Type 0 where
   pub some-message : 0 < length m
   pub size-is : n ≡ size-of (final-packet (s .plan) m)
-  pub buffer-fits : n ≤ length was
   pub bytes-are : new ≡ canonical (final-packet (s .plan) m) ++ drop n was
 
 -- the last packet is written, whatever the message was
 pub record Ended (s : Sending) (was new : List ℕ) (n : ℕ) : Type 0 where
+  pub buffer-fits : n ≤ length was
   pub final : (m : List ℕ) → Took s m → Final s m was new n
 
 -- there is no message, or, after that, the buffer is too short

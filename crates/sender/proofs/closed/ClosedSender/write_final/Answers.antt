@@ -45,4 +45,4 @@ returns c =
     let l = held-long st in
     let s = size-with (sending st .plan) true (st .sent) v (take (st .held) (st .tail)) e (st .«id_size») in
     let z = c .put-packet .ensures .size in
-    record { final = λ m k. final (sending st) m (omega arith) k (omega arith) v (c .args .buffer .now) _ _ e z (omega arith) (c .put-packet .ensures .after) }
+    record { buffer-fits = omega arith; final = λ m k. final (sending st) m (omega arith) k (omega arith) v (c .args .buffer .now) _ _ e z (c .put-packet .ensures .after) }

@@ -36,9 +36,10 @@ returns-then-total-cut c =
     let g = moved-none (sending st) q _ (omega arith) (omega arith) refl refl (held-more (st .cut) (st .held) (st .tail) q l _ (c .put .ensures)) in
     record {
       same-plan = refl;
+      buffer-fits = omega arith;
       grown = λ m k. grown (sending st) m (omega arith) k q 0 _ g (c .args .buffer .now) _
           (message-fits (sending st) m (omega arith) k q (c .room .result) (omega arith) (c .if-portion-room .left))
-          (omega arith) (none-written (sure-packet (sending st .plan) (st .sent) (take (st .held) (st .tail) ++ q)) _ (c .args .buffer .now));
+          (none-written (sure-packet (sending st .plan) (st .sent) (take (st .held) (st .tail) ++ q)) _ (c .args .buffer .now));
     }
 
 pub returns-then-buffer-count : need.returns-then-buffer-count
@@ -113,8 +114,8 @@ returns c =
     let g : Moved s q n _ = record { same-plan = refl; number-is = c .followed-count .ensures .many ∙ ap (λ i. sure L (i + length q)) (sym l); sent-is = refl; unsent-is = held } in
     record {
       same-plan = refl;
+      buffer-fits = c .if-buffer-count .left;
       grown = λ m k. grown s m (omega arith) k q n _ g was _
           (message-fits s m (omega arith) k q (c .room .result) (omega arith) (c .if-portion-room .left))
-          (c .if-buffer-count .left)
           (c .put-run .ensures ∙ (ap (λ y. bytes-of y ++ drop (n * size-of v) was) run ∙ ap (λ i. bytes-of (map (sure-packet (s .plan) (st .sent) (take h t ++ q)) (counting 0 n)) ++ drop (n * i) was) size));
     }
