@@ -1,3 +1,5 @@
 // Worked examples of the formats, compared by tests. The crate has nothing else.
 #[cfg(test)]
 mod packets;
+#[cfg(test)]
+mod senders;
