@@ -90,7 +90,7 @@ fn byte_order(word: &str) -> Result<ByteOrder, AnyError> {
 }
 
 fn body_length(word: &str) -> Result<BodyLength, AnyError> {
-    match BodyLength::new(word.parse::<usize>()?) {
+    match BodyLength::new(word.parse::<usize>().ok().ok_or(USAGE)?) {
         Ok(length) => Ok(length),
         Err(_) => Err("L refused 8: not a multiple of 8 from 16 to 1440".into()),
     }
@@ -106,7 +106,7 @@ fn run(rt: &LibcRuntime) -> Result<(), AnyError> {
         return Err(USAGE.into());
     }
     let mut loads = Loads {
-        issuer: Issuer::new(node.as_str().parse::<u64>()?),
+        issuer: Issuer::new(node.as_str().parse::<u64>().ok().ok_or(USAGE)?),
         length: body_length(length.as_str())?,
         order: byte_order(order.as_str())?,
         packets: vec![in rt.alloc(); 0; ROOM]?,
