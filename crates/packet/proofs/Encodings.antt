@@ -5,13 +5,18 @@ use native.Mathlib.Omega.{arith}
 use lib.Dec.{lit<, lit≤}
 use Prim.Native.Nat.{ℕ, zero, suc, _+_, _-_, _≤_, _<_}
 use lib.ListN.{length, getD, take, drop}
+use Rattle.std.specs.Results.{Cases}
+use Rattle.std.specs.declared.result.Result.{Result}
+use Rattle.std.proofs.shelf.Results.{cases-weaker}
 use Rattle.std.proofs.shelf.Lists.{append-assoc, length-append, length-drop, length-take-le, take-at, drop-at, drop-drop, drop-more, take-append-drop, getD-take, getD-drop}
+use Rattle.wire.specs.declared.refusal.Refusal.{Refusal}
 use Rattle.wire.specs.Numbers.{Octets, digits, number-of}
 use Rattle.wire.proofs.Fronts.{split-at}
 use Rattle.wire.proofs.Numbers.{digits-number, octets-stretch}
 use Rattle.packet.specs.Limits.{magic-bytes}
-use Rattle.packet.specs.Packets.{PacketValue, In-range, Encodes, Numbered, body-start, padding-length, size-of, datagram-of, header-of, flags-of}
-use Rattle.packet.specs.Datagrams.{order-of, stop-of, order-in, stop-in, field-in, body-length-in, number-in, count-in, id-length-in}
+use Rattle.packet.specs.declared.Packet.{Packet}
+use Rattle.packet.specs.Packets.{PacketValue, shown, In-range, Encodes, Numbered, body-start, padding-length, size-of, datagram-of, header-of, flags-of}
+use Rattle.packet.specs.Datagrams.{Reading, order-of, stop-of, order-in, stop-in, field-in, body-length-in, number-in, count-in, id-length-in}
 use Rattle.packet.proofs.Headers.{Laid, Told, laid, told}
 use Rattle.packet.proofs.Flaws.{Passed, in-range-tests, told-sized}
 
@@ -135,3 +140,7 @@ told-back v xs e =
 
 pub one-packet : (v w : PacketValue) (xs : List ℕ) → Encodes v xs → Encodes w xs → v ≡ w
 one-packet v w xs p q = told-back v xs p ∙ sym (told-back w xs q)
+
+-- whoever reads the bytes of v gets v
+pub reads-back : {v : PacketValue} {xs : List ℕ} → Encodes v xs → (r : Result Packet Refusal) → Reading xs r → Cases r (λ p. shown p ≡ v) (λ _. ⊥)
+reads-back {v} {xs} e r h = cases-weaker r h (λ p q. one-packet (shown p) v xs q e) (λ _ q. q .1 v e)

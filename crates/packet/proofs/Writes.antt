@@ -17,7 +17,7 @@ use Rattle.packet.specs.Packets.{PacketValue, shown, In-range, Encodes, flags-
 use Rattle.packet.specs.Datagrams.{Reading}
 use Rattle.packet.specs.Writing.{Written}
 use Rattle.packet.proofs.Headers.{length-header}
-use Rattle.packet.proofs.Encodings.{one-packet}
+use Rattle.packet.proofs.Encodings.{reads-back}
 use Rattle.packet.proofs.Buffers.{Begun, begun-more}
 use Rattle.packet.proofs.Values.{padded, length-canonical}
 
@@ -71,5 +71,5 @@ written v was new n r s f b =
       size-is = s;
       fits = f;
       bytes-are = b;
-      reads-back = λ a h. cases-weaker a h (λ p q. one-packet (shown p) v (take n new) q e) (λ _ q. q .1 v e);
+      reads-back = reads-back e;
     }

@@ -1,11 +1,13 @@
 -- The length at the start of a record.
 use mathlib.Core.Path.{_≡_, refl, sym, ap, subst, _∙_}
 use mathlib.Core.List.{List, [], _∷_, _++_}
+use mathlib.Core.Logic.{⊎-elim}
 use native.Mathlib.Omega.{arith}
 use Prim.Native.Nat.{ℕ, _+_, _-_, _^_, _≤_, _<_}
-use lib.ListN.{length, take, drop}
+use lib.ListN.{length, getD, take, drop}
 use Rattle.std.specs.Joined.{joined}
-use Rattle.std.proofs.shelf.Lists.{append-assoc, length-append, length-drop, length-take-le, take-at, take-append-drop, drop-at, length-push, joined-more}
+use Rattle.std.proofs.shelf.Lists.{append-assoc, length-append, length-drop, length-take-le, take-at, take-append-drop, drop-at, length-push, joined-more, getD-append-left, getD-push}
+use Rattle.std.proofs.shelf.Tests.{cases-lt}
 use Rattle.wire.specs.declared.order.ByteOrder.the-variants.{Big}
 use Rattle.wire.specs.Numbers.{Octets, digits, number-of}
 use Rattle.wire.proofs.Fronts.{elements, take-elements}
@@ -52,17 +54,23 @@ begins-shorter {input} {xs} {rest} b = let l = begins-stated input xs rest b .1 
 pub record Passed (input : List ℕ) (n : ℕ) (rest : List ℕ) : Type 0 where
   pub held : List (List ℕ)
   pub many : length held ≡ n
+  pub counted : (i : ℕ) → i < length held → length (getD held i []) < 2 ^ 16
   pub in-a-row : input ≡ joined record-of held ++ rest
 
 pub passed-none : (input : List ℕ) → Passed input 0 input
-passed-none input = record { held = []; many = refl; in-a-row = refl }
+passed-none input = record { held = []; many = refl; counted = λ i h. absurd (omega arith); in-a-row = refl }
 
 pub passed-more : {input rest xs after : List ℕ} {n : ℕ} → Passed input n rest → Begins rest xs after → Passed input (n + 1) after
 passed-more {input} {rest} {xs} {after} {n} p b =
     let front = joined record-of (p .held) in
+    let l = length-push (p .held) xs in
     record {
       held = p .held ++ xs ∷ [];
-      many = length-push (p .held) xs ∙ ap (λ k. k + 1) (p .many);
+      many = l ∙ ap (λ k. k + 1) (p .many);
+      counted = λ i h. ⊎-elim
+          (λ k. rw (getD-append-left (p .held) (xs ∷ []) [] i k) (p .counted i k))
+          (λ (k : length (p .held) ≤ i). let e : length (p .held) ≡ i = omega arith in rw (getD-push (p .held) xs [] i e) (b .counted))
+          (cases-lt i (length (p .held)));
       in-a-row =
           p .in-a-row ∙ (ap (λ t. front ++ t) (b .bytes-are) ∙ (sym (append-assoc front (record-of xs) after)
           ∙ ap (λ t. t ++ after) (joined-more record-of [] (p .held) xs)));
@@ -71,6 +79,14 @@ passed-more {input} {rest} {xs} {after} {n} p b =
 pub passed-walked : {input rest : List ℕ} {n : ℕ} → Passed input n rest → Cut rest → Walked input n (length input - length rest)
 passed-walked {input} {rest} {n} p c =
     let front = joined record-of (p .held) in
+    let used = length input - length rest in
     let l : length input ≡ length front + length rest = ap length (p .in-a-row) ∙ length-append front rest in
-    let d : drop (length input - length rest) input ≡ rest = ap (drop (length input - length rest)) (p .in-a-row) ∙ drop-at front rest (length input - length rest) (omega arith) in
-    record { held = p .held; many = p .many; in-a-row = p .in-a-row ∙ ap (λ t. front ++ t) (sym d); cut-after = subst Cut (sym d) c }
+    let d : drop used input ≡ rest = ap (drop used) (p .in-a-row) ∙ drop-at front rest used (omega arith) in
+    record {
+      held = p .held;
+      many = p .many;
+      counted = p .counted;
+      used-fits = omega arith;
+      in-a-row = ap (take used) (p .in-a-row) ∙ take-at front rest used (omega arith);
+      cut-after = subst Cut (sym d) c;
+    }

@@ -74,6 +74,7 @@ issues-in-order n ids s r =
     let b = counted n ids s r in
     let f = b .few in
     record {
+      given-are = b .given-is;
       few = f;
       each = b .each;
       once = λ j k hj hk e. one-serial n j k (omega arith) (omega arith) (sym (b .each j hj) ∙ (e ∙ b .each k hk));

@@ -106,4 +106,4 @@ module _ (p : Plan) (lawful : Lawful-plan p) where
 pub portions-join : Portions-join
 portions-join p qs out s h r =
     let b = so-far p h r in
-    record { same-plan = b .same-plan; took = b .took; all-written = all-written p h b }
+    record { same-plan = b .same-plan; took = b .took; so-far = b .out-is; all-written = all-written p h b }

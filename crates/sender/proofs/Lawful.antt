@@ -10,6 +10,7 @@ use Rattle.std.proofs.shelf.Counted.{length-map-counting, getD-map-counting}
 use Rattle.std.proofs.shelf.Lists.{take-all, take-take, drop-take, drop-drop, take-append-drop, length-take, length-drop}
 use Rattle.wire.specs.Limits.{max-packets}
 use Rattle.packet.specs.Packets.{PacketValue, In-range}
+use Rattle.packet.proofs.Encodings.{reads-back}
 use Rattle.sender.specs.Packets.{Plan, Lawful-plan, packet-count, packet-at, packets-from, packets-of, Lawful-packet, Lawful-packets, Packets-lawful}
 use Rattle.sender.specs.Sending.{sure}
 use Rattle.sender.proofs.Cuts.{one-more, few-more, quotient-low, quotient-high}
@@ -58,16 +59,20 @@ module _ (p : Plan) (m : List ℕ) (h : Lawful-plan p) (some : 0 < length m) (fi
       let lb = length-take L (drop (i * L) m) in
       in-range-with p _ i (packet-at p m i) body refl (h .id-size) (omega arith) (omega arith) (omega arith)
 
-  packet-lawful : (i : ℕ) → i < packet-count (p .cut) (length m) → Lawful-packet p (packet-count (p .cut) (length m)) i (packet-at p m i)
+  packet-lawful : (i : ℕ) → i < packet-count (p .cut) (length m) → Lawful-packet p m (packet-count (p .cut) (length m)) i (packet-at p m i)
   unfolding packet-at
-  packet-lawful i l = record {
-    accepted = encoded (packet-at p m i) (packet-in-range i l);
-    number-is = refl;
-    id-is = refl;
-    order-is = refl;
-    count-is = refl;
-    stop-is = refl;
-  }
+  packet-lawful i l =
+      let e = encoded (packet-at p m i) (packet-in-range i l) in
+      record {
+        accepted = e;
+        reads-back = reads-back e;
+        body-is = refl;
+        number-is = refl;
+        id-is = refl;
+        order-is = refl;
+        count-is = refl;
+        stop-is = refl;
+      }
 
   pub lawful-packets : Lawful-packets p m (packets-of p m)
   lawful-packets =
@@ -80,8 +85,8 @@ module _ (p : Plan) (m : List ℕ) (h : Lawful-plan p) (some : 0 < length m) (fi
       record {
         few = omega arith;
         each = λ i d k.
-            let P : ℕ → Type 0 = λ c. Lawful-packet p c i (packet-at p m i) in
-            let Q : PacketValue → Type 0 = λ v. Lawful-packet p (length (packets-of p m)) i v in
+            let P : ℕ → Type 0 = λ c. Lawful-packet p m c i (packet-at p m i) in
+            let Q : PacketValue → Type 0 = λ v. Lawful-packet p m (length (packets-of p m)) i v in
             subst Q (sym (getD-map-counting (packet-at p m) 0 n i i d (omega arith) (omega arith))) (subst P (sym l) (packet-lawful i (omega arith)));
         bodies-join = let z : 0 * p .cut ≡ 0 = omega arith in bodies-join p m 0 n ∙ (ap (λ i. take (n * p .cut) (drop i m)) z ∙ take-all (n * p .cut) m all);
       }

@@ -49,11 +49,12 @@ pub data Issues (n : ℕ) : List (List ℕ) → Issuing → Type 0 where
   issue-more : {ids : List (List ℕ)} {s t : Issuing} {i : List ℕ} → Issues n ids s → Issued s i t → Issues n (ids ++ i ∷ []) t
   issue-refused : {ids : List (List ℕ)} {s t : Issuing} {e : Refusal} → Issues n ids s → Unissued s e t → Issues n ids t
 
--- the ids that a new issuer gave: the id number k is that of the serial k, and no two are the same
-pub record Ids-in-order (n : ℕ) (ids : List (List ℕ)) : Type 0 where
+-- the ids that a new issuer gave: the id number k is that of the serial k, and no two are the same; s is the issuer after
+pub record Ids-in-order (n : ℕ) (ids : List (List ℕ)) (s : Issuing) : Type 0 where
+  pub given-are : s .given ≡ length ids
   pub few : length ids ≤ serial-count
   pub each : (k : ℕ) → k < length ids → getD ids k [] ≡ id-of n k
   pub once : (j k : ℕ) → j < length ids → k < length ids → getD ids j [] ≡ getD ids k [] → j ≡ k
 
 abbrev pub Issues-in-order : Type 0
-Issues-in-order = (n : ℕ) (ids : List (List ℕ)) (s : Issuing) → Issues n ids s → Ids-in-order n ids
+Issues-in-order = (n : ℕ) (ids : List (List ℕ)) (s : Issuing) → Issues n ids s → Ids-in-order n ids s

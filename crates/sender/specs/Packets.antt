@@ -7,9 +7,14 @@ use lib.Dec.{eqb}
 use lib.ListN.{length, getD, take, drop}
 use Rattle.std.specs.Iters.{counting}
 use Rattle.std.specs.Joined.{joined}
+use Rattle.std.specs.Results.{Cases}
+use Rattle.std.specs.declared.result.Result.{Result}
 use Rattle.wire.specs.declared.order.ByteOrder.{ByteOrder}
 use Rattle.wire.specs.Limits.{max-packets}
-use Rattle.packet.specs.Packets.{PacketValue, canonical, Encodes}
+use Rattle.wire.specs.declared.refusal.Refusal.{Refusal}
+use Rattle.packet.specs.declared.Packet.{Packet}
+use Rattle.packet.specs.Packets.{PacketValue, shown, canonical, Encodes}
+use Rattle.packet.specs.Datagrams.{Reading}
 use Rattle.sender.specs.Limits.{id-length}
 use Rattle.sender.specs.Lengths.{Lawful-length}
 
@@ -51,9 +56,12 @@ packets-of p m = packets-from p m 0 (packet-count (p .cut) (length m))
 unfoldable pub bytes-of : List PacketValue → List ℕ
 bytes-of vs = joined canonical vs
 
--- what holds of the packet number i of n
-pub record Lawful-packet (p : Plan) (n i : ℕ) (v : PacketValue) : Type 0 where
+-- what holds of the packet number i of n of the message m
+pub record Lawful-packet (p : Plan) (m : List ℕ) (n i : ℕ) (v : PacketValue) : Type 0 where
   pub accepted : Encodes v (canonical v)
+  -- whoever reads its bytes gets it
+  pub reads-back : (r : Result Packet Refusal) → Reading (canonical v) r → Cases r (λ q. shown q ≡ v) (λ _. ⊥)
+  pub body-is : v .body ≡ take (p .cut) (drop (i * p .cut) m)
   pub number-is : v .number ≡ i
   pub id-is : v .id ≡ p .id
   pub order-is : v .order ≡ p .order
@@ -63,7 +71,7 @@ pub record Lawful-packet (p : Plan) (n i : ℕ) (v : PacketValue) : Type 0 where
 -- what holds of the packets vs of the message m
 pub record Lawful-packets (p : Plan) (m : List ℕ) (vs : List PacketValue) : Type 0 where
   pub few : length vs ≤ max-packets
-  pub each : (i : ℕ) (d : PacketValue) → i < length vs → Lawful-packet p (length vs) i (getD vs i d)
+  pub each : (i : ℕ) (d : PacketValue) → i < length vs → Lawful-packet p m (length vs) i (getD vs i d)
   pub bodies-join : joined (λ v. v .body) vs ≡ m
 
 -- the packets of any message that is not too long are such as a reader accepts, and carry it

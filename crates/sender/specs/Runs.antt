@@ -5,7 +5,7 @@ use Prim.Native.Nat.{ℕ, _*_}
 use lib.ListN.{take}
 use Rattle.std.specs.Joined.{joined}
 use Rattle.wire.specs.declared.refusal.Refusal.{Refusal}
-use Rattle.sender.specs.Packets.{Plan, Lawful-plan, packets-of, bytes-of}
+use Rattle.sender.specs.Packets.{Plan, Lawful-plan, packets-from, packets-of, bytes-of}
 use Rattle.sender.specs.Sending.{Sending, new-sending, full-size, Took, Added, Unadded, Ended}
 
 -- the message that portions make
@@ -24,6 +24,8 @@ pub data Sends (p : Plan) : List (List ℕ) → List ℕ → Sending → Type 0 
 pub record Portions-sent (p : Plan) (m out : List ℕ) (s : Sending) : Type 0 where
   pub same-plan : s .plan ≡ p
   pub took : Took s m
+  -- before the last packet, those that are sure
+  pub so-far : out ≡ bytes-of (packets-from p m 0 (s .sent))
   pub all-written : (was new : List ℕ) (n : ℕ) → Ended s was new n → out ++ take n new ≡ bytes-of (packets-of p m)
 
 abbrev pub Portions-join : Type 0
