@@ -1,0 +1,4 @@
+pub mod Sums
+pub mod Pieces
+pub mod Units
+pub mod Stores
