@@ -2,6 +2,7 @@
 use cells::CellShelf;
 use cells::CellShelfShelf;
 use shelf::Shelf;
+use std::alloc::Global;
 use std::test::*;
 
 // What an empty shelf with room for the longest piece and one more answers.
@@ -32,6 +33,40 @@ fn answers<S: Shelf>(shelf: &mut S, longest: &[u8]) -> Result<(), Fail> {
     check_eq(shelf.free(), free).note("all is free again")
 }
 
+// Pieces at both sides of the lengths that cost one block more, each alone on an empty shelf.
+fn lengths<S: Shelf>(heap: Global, shelf: &mut S) -> Result<(), Fail> {
+    let unit = S::unit_size().max(1);
+    let free = shelf.free();
+    for length in [1usize, 500, 501, 1000, 1001, 1448] {
+        let bytes = vec![in heap; 0x5A; length]?;
+        let mut back = vec![in heap; 0xEE; length]?;
+        check(shelf.put(3, 5, bytes.as_slice())).note(length)?;
+        check_eq(free.saturating_sub(shelf.free()), length.div_ceil(unit)).note(length)?;
+        check(shelf.holds(3, 5, bytes.as_slice())).note(length)?;
+        check_eq(shelf.copy_out(3, 5, back.as_mut_slice()), length)?;
+        check(back == bytes).note(length)?;
+        shelf.clear(3);
+        check_eq(shelf.free(), free).note(length)?;
+    }
+    Ok(())
+}
+
+// A shelf without a unit takes nothing.
+fn nothing_fits<S: Shelf>(shelf: &mut S) -> Result<(), Fail> {
+    check_eq(shelf.free(), 0)?;
+    check(!shelf.put(0, 0, b"a"))?;
+    check_eq(shelf.length(0, 0), 0)
+}
+
+#[test]
+fn no_room(rt: LibcRuntime) -> Result<(), Fail> {
+    let mut none = vec![in rt.alloc(); 0; 0]?;
+    nothing_fits(&mut CellShelf::new(none.as_mut_slice()))?;
+    let mut short = vec![in rt.alloc(); 9; 1455]?;
+    nothing_fits(&mut CellShelf::new(short.as_mut_slice()))?;
+    check(short == vec![in rt.alloc(); 9; 1455]?).note("the memory stays")
+}
+
 #[test]
 fn cell_shelf(rt: LibcRuntime) -> Result<(), Fail> {
     let heap = rt.alloc();
@@ -42,6 +77,7 @@ fn cell_shelf(rt: LibcRuntime) -> Result<(), Fail> {
         check_eq(shelf.free(), 2).note("whatever stood in the memory")?;
         check(!shelf.put(0, 0, &[7; 1449])).note("a byte too many")?;
         answers(&mut shelf, longest.as_slice())?;
+        lengths(heap, &mut shelf)?;
         check(shelf.put(1, 1, b"a") && shelf.put(1, 2, b"b"))?;
         check(!shelf.put(1, 3, b"c")).note("no cell is free")?;
     }
