@@ -23,27 +23,35 @@ pub const BLOCK_LENGTH: usize = 512;
 /// The most data in one block. A longer piece is cut into parts, all of this length but the last.
 pub const DATA_LENGTH: usize = 500;
 
-// Where the fields stand.
-const STATE_AT: usize = 0;
+/// Where the state stands: `FREE` or `USED`.
+pub const STATE_AT: usize = 0;
 
-const SLOT_AT: usize = 1;
+/// Where the slot of the piece stands.
+pub const SLOT_AT: usize = 1;
 
-const NUMBER_AT: usize = 2;
+/// Where the packet number of the piece stands.
+pub const NUMBER_AT: usize = 2;
 
-const INDEX_AT: usize = 3;
+/// Where it stands which part of the piece this is, from 0 on.
+pub const INDEX_AT: usize = 3;
 
-const LENGTH_AT: usize = 4;
+/// Where the length of the part stands.
+pub const LENGTH_AT: usize = 4;
 
-const WHOLE_AT: usize = 6;
+/// Where the length of the whole piece stands.
+pub const WHOLE_AT: usize = 6;
 
-const DATA_AT: usize = 8;
+/// Where the data begin.
+pub const DATA_AT: usize = 8;
 
-const CHECK_AT: usize = 510;
+/// Where the check of the bytes before stands.
+pub const CHECK_AT: usize = 510;
 
-// What byte 0 says.
-const FREE: u8 = 0;
+/// The state of a block that holds nothing.
+pub const FREE: u8 = 0;
 
-const USED: u8 = 1;
+/// The state of a block that holds one part of a piece.
+pub const USED: u8 = 1;
 
 /// Whether these are the bytes of a lawful block.
 /// No two lawful blocks differ in just one byte.
