@@ -10,15 +10,12 @@ use lib.Seq.{getD-drop}
 use Rattle.std.proofs.shelf.Lists.{ext-getD, length-append, length-drop, getD-append-left, getD-append-right}
 use Rattle.std.proofs.shelf.Tests.{cases-lt}
 use Rattle.blocks.specs.Parts.{part-of}
-use Rattle.blocks.specs.Steps.{Copied}
+use Rattle.blocks.specs.Steps.{Copied-parts}
 use Rattle.blocks.proofs.Places.{part-long, part-inside, part-below, part-above}
 use Rattle.blocks.proofs.Cuts.{length-part, part-octet}
 
-pub copy-none : (p u : List ℕ) → Copied p u 0 u
-copy-none p u = record { long = refl; front = λ i a b. absurd (omega arith); behind = λ i a. refl }
-
 -- one part more
-module _ (p u w part : List ℕ) (k : ℕ) (so-far : Copied p u k w) (begins : k * 500 < length p) (room : length p ≤ length u) (part-is : part ≡ part-of p k) where
+module _ (p u w part : List ℕ) (k : ℕ) (so-far : Copied-parts p u k w) (begins : k * 500 < length p) (room : length p ≤ length u) (part-is : part ≡ part-of p k) where
   long : length part ≡ min 500 (length p - k * 500)
   long = ap length part-is ∙ length-part p k
 
@@ -28,7 +25,7 @@ module _ (p u w part : List ℕ) (k : ℕ) (so-far : Copied p u k w) (begins : k
   within : k * 500 + length part ≤ length w
   within = let l = long in let e = so-far .long in omega arith
 
-  pub copy-more : Copied p u (k + 1) now-held
+  pub copy-more : Copied-parts p u (k + 1) now-held
   copy-more = record {
     long = part-long w part (k * 500) within ∙ so-far .long;
     front = λ i a b. elim (cases-lt i (k * 500)) [
@@ -44,7 +41,7 @@ module _ (p u w part : List ℕ) (k : ℕ) (so-far : Copied p u k w) (begins : k
   }
 
 -- once all parts are copied
-pub copy-all : (p u : List ℕ) (k : ℕ) (w : List ℕ) → Copied p u k w → length p ≤ k * 500 → length p ≤ length u → w ≡ p ++ drop (length p) u
+pub copy-all : (p u : List ℕ) (k : ℕ) (w : List ℕ) → Copied-parts p u k w → length p ≤ k * 500 → length p ≤ length u → w ≡ p ++ drop (length p) u
 copy-all p u k w copied all room =
     let a = length-append p (drop (length p) u) in
     let d = length-drop (length p) u in

@@ -1,7 +1,7 @@
 -- A block that is written.
 use borrow.Author.Needs.{needs}
 use borrow.Rule.Slice.PartMut.{putMid}
-use mathlib.Core.Path.{_≡_, refl, sym, ap, _∙_}
+use mathlib.Core.Path.{_≡_, refl, ap, _∙_}
 use mathlib.Core.Bool.{true, false}
 use mathlib.Core.List.{List, [], _∷_, _++_}
 use native.Mathlib.Omega.{arith}
@@ -15,7 +15,7 @@ use Rattle.std.proofs.shelf.Ways.{tells}
 use Rattle.wire.specs.declared.order.ByteOrder.the-variants.{Big}
 use Rattle.wire.specs.Numbers.{digits}
 use Rattle.block.specs.Check.{check-of}
-use Rattle.block.specs.Blocks.{Part, In-range, free-front, used-front, sealed, Lawful, free, used}
+use Rattle.block.specs.Blocks.{Part, In-range, free-front, used-front, sealed, free, used}
 use Rattle.block.specs.Fields.{index-in, length-in, whole-in}
 use Rattle.block.specs.Dumps.{is-used}
 use Rattle.block.proofs.Layouts.{found-lawful}
@@ -63,9 +63,6 @@ module _ (m bytes part zeros : List ℕ) (slot number index whole high low whole
       front ∙ (ap (λ t. t ++ zeros) fields ∙ (all ∙ (ap (λ t. t ++ (part ++ zeros)) notes ∙ (let d : part ++ zeros ≡ bytes ++ replicate (510 - (8 + n)) 0 = rw (part-is, zeros-are) in cc))))
 
 -- what a filled and a freed block are
-pub filled-lawful : (p : Part) (x : List ℕ) → In-range p → Filled p x → Lawful x
-filled-lawful p x range e = used p range e
-
 pub filled-long : (p : Part) (x : List ℕ) → In-range p → Filled p x → length x ≡ 512
 filled-long p x range e = found-lawful x (used p range e) .long
 

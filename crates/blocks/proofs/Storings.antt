@@ -1,7 +1,7 @@
 -- Bytes that are stored in parts, each in a block that was free.
 use mathlib.Core.Path.{_≡_, refl, sym, ap, subst, _∙_}
-use mathlib.Core.List.{List, [], _++_}
-use mathlib.Core.Bool.{Bool, true, false, cond}
+use mathlib.Core.List.{List}
+use mathlib.Core.Bool.{true, false}
 use mathlib.Core.Logic.{inl, inr}
 use native.Mathlib.Omega.{arith}
 use Prim.Native.Nat.{ℕ, _+_, _*_, _<_, _≤_}
@@ -16,10 +16,10 @@ use Rattle.shelf.specs.Units.{cost, same-place, Puts}
 use Rattle.shelf.proofs.Counts.{count-none, count-same, count-bump, count-all}
 use Rattle.shelf.proofs.Picks.{pick-same, pick-last}
 use Rattle.block.specs.Blocks.{Part, In-range, Lawful, used}
-use Rattle.block.specs.Fields.{slot-in, number-in, index-in, whole-in}
+use Rattle.block.specs.Fields.{slot-in, number-in, whole-in}
 use Rattle.block.specs.Dumps.{is-used}
 use Rattle.blocks.specs.Parts.{part-of, part-from, content-of, sits, sits-part, Blocks, part-in, piece-in, Sound}
-use Rattle.blocks.specs.Steps.{range-test, None-sits, None-free, Filled, Stored}
+use Rattle.blocks.specs.Steps.{range-test, None-sits, None-free, Filled, Stored-parts}
 use Rattle.blocks.proofs.Fills.{filled-sits, filled-used, filled-part, filled-whole, filled-content}
 use Rattle.blocks.proofs.Cuts.{cost-is, part-begins, length-part, part-none, parts-join}
 use Rattle.blocks.proofs.Sounds.{sits-says, none-part}
@@ -45,7 +45,7 @@ unused-sits x s n h = rw h
 unused-part : (x : List ℕ) (s n k : ℕ) → is-used x ≡ false → sits-part x s n k ≡ false
 unused-part x s n k h = rw h
 
-pub store-none : (b : Blocks) (count slot number : ℕ) (bytes : List ℕ) → Sound b count → None-sits b count slot number → Stored b count slot number bytes 0 b
+pub store-none : (b : Blocks) (count slot number : ℕ) (bytes : List ℕ) → Sound b count → None-sits b count slot number → Stored-parts b count slot number bytes 0 b
 store-none b count slot number bytes sound off = record {
   lawful = sound .lawful;
   others = λ i l f. refl;
@@ -58,14 +58,14 @@ store-none b count slot number bytes sound off = record {
 }
 
 -- where there is room for one part more, not all blocks are used
-pub some-free : (b : Blocks) (count slot number : ℕ) (bytes : List ℕ) (k : ℕ) (d : Blocks) → Stored b count slot number bytes k d
+pub some-free : (b : Blocks) (count slot number : ℕ) (bytes : List ℕ) (k : ℕ) (d : Blocks) → Stored-parts b count slot number bytes k d
     → k + count-of (λ i. is-used (b i)) count < count → None-free d count → ⊥
 some-free b count slot number bytes k d so-far room full =
     let all = count-all (λ i. is-used (d i)) count full in
     let now-used = so-far .used-count in
     omega arith
 
-module _ (b d e : Blocks) (count slot number : ℕ) (bytes : List ℕ) (k j : ℕ) (so-far : Stored b count slot number bytes k d)
+module _ (b d e : Blocks) (count slot number : ℕ) (bytes : List ℕ) (k j : ℕ) (so-far : Stored-parts b count slot number bytes k d)
     (within : j < count) (unused : is-used (d j) ≡ false) (range : In-range (part-from slot number k (length bytes) (part-of bytes k)))
     (filled : Filled (part-from slot number k (length bytes) (part-of bytes k)) (e j)) (same : (i : ℕ) → (i ≡ j → ⊥) → e i ≡ d i) where
   abbrev new : Part
@@ -133,7 +133,7 @@ module _ (b d e : Blocks) (count slot number : ℕ) (bytes : List ℕ) (k j : �
   more-none i p l h = other-part p i (λ z. omega arith) ∙ so-far .none-later i p l (omega arith)
 
   -- one part more
-  pub store-more : Stored b count slot number bytes (k + 1) e
+  pub store-more : Stored-parts b count slot number bytes (k + 1) e
   store-more =
       let own = count-bump (λ i. sits (d i) slot number) (λ i. sits (e i) slot number) count j within was-off new-sits
       (λ i ne. ap (λ x. sits x slot number) (same i ne)) in
@@ -160,7 +160,7 @@ place-same : (slot number s n : ℕ) → same-place slot number s n ≡ true →
 place-same slot number s n h = (grind (arith, tells), grind (arith, tells))
 
 -- once all parts are stored
-module _ (b d : Blocks) (count slot number : ℕ) (bytes : List ℕ) (stored : Stored b count slot number bytes (cost 500 (length bytes)) d)
+module _ (b d : Blocks) (count slot number : ℕ) (bytes : List ℕ) (stored : Stored-parts b count slot number bytes (cost 500 (length bytes)) d)
     (sound : Sound b count) (short : length bytes ≤ 1448) where
   part-all : (p : ℕ) → part-in d count slot number p ≡ part-of bytes p
   part-all p = elim (cases-lt p (cost 500 (length bytes))) [

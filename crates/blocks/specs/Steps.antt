@@ -39,10 +39,11 @@ pub record Is-free (blocks : Blocks) (count i : ℕ) : Type 0 where
   pub within : i < count
   pub unused : is-used (blocks i) ≡ false
 
--- the block x holds this part of a piece, and nothing
+-- the block x holds this part of a piece
 abbrev pub Filled : Part → List ℕ → Type 0
 Filled p x = x ≡ sealed (used-front p)
 
+-- the block x holds nothing
 abbrev pub Freed : List ℕ → Type 0
 Freed x = x ≡ sealed free-front
 
@@ -59,7 +60,7 @@ pub record Cleared (b : Blocks) (slot k : ℕ) (d : Blocks) : Type 0 where
   pub later : (i : ℕ) → k ≤ i → d i ≡ b i
 
 -- the first k parts of the bytes are stored at the place, each in a block that was free: b before, d now
-pub record Stored (b : Blocks) (count slot number : ℕ) (bytes : List ℕ) (k : ℕ) (d : Blocks) : Type 0 where
+pub record Stored-parts (b : Blocks) (count slot number : ℕ) (bytes : List ℕ) (k : ℕ) (d : Blocks) : Type 0 where
   pub lawful : (i : ℕ) → i < count → ∥ Lawful (d i) ∥₁
   pub others : (i : ℕ) → i < count → sits (d i) slot number ≡ false → d i ≡ b i
   pub were-free : (i : ℕ) → i < count → sits (d i) slot number ≡ true → is-used (b i) ≡ false
@@ -70,7 +71,7 @@ pub record Stored (b : Blocks) (count slot number : ℕ) (bytes : List ℕ) (k :
   pub none-later : (i p : ℕ) → i < count → k ≤ p → sits-part (d i) slot number p ≡ false
 
 -- of the buffer u the bytes of the first k parts of the piece p are written: w now
-pub record Copied (p u : List ℕ) (k : ℕ) (w : List ℕ) : Type 0 where
+pub record Copied-parts (p u : List ℕ) (k : ℕ) (w : List ℕ) : Type 0 where
   pub long : length w ≡ length u
   pub front : (i : ℕ) → i < k * data-length → i < length p → getD w i 0 ≡ getD p i 0
   pub behind : (i : ℕ) → min (k * data-length) (length p) ≤ i → getD w i 0 ≡ getD u i 0

@@ -1,7 +1,6 @@
 // One block: its fields, and what is written into it.
 ghost use mathlib.Core.Path.{_≡_};
-ghost use mathlib.Core.Bool.{true};
-ghost use Prim.Native.Nat.{_<_, _≤_};
+ghost use Prim.Native.Nat.{_≤_};
 ghost use lib.ListN.{length, take};
 ghost use Rattle.block.specs.Limits.{block-length, data-length, check-start};
 ghost use Rattle.block.specs.Blocks.{In-range, sealed};

@@ -1,6 +1,6 @@
 // The block shelf: pieces in parts, each part in a sealed block, on memory that is lent.
 ghost use mathlib.Core.Path.{_≡_};
-ghost use Prim.Native.Nat.{ℕ, _*_, _≤_};
+ghost use Prim.Native.Nat.{_*_, _≤_};
 ghost use lib.ListN.{length, take, drop};
 ghost use denote.Ref.{now, name};
 ghost use Rattle.std.specs.declared.result.Result.the-variants.{Ok};

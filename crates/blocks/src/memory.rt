@@ -13,7 +13,7 @@ ghost use Rattle.block.specs.Limits.{block-length, data-length};
 ghost use Rattle.block.specs.Blocks.{In-range};
 ghost use Rattle.block.specs.Dumps.{block-at, is-used};
 ghost use Rattle.blocks.specs.Parts.{part-of, part-from, part-in, piece-in, Sound};
-ghost use Rattle.blocks.specs.Steps.{range-test, None-sits, None-part, Last-part, None-free, Is-free, Filled, Freed, One-block, Cleared, Stored, Stores};
+ghost use Rattle.blocks.specs.Steps.{range-test, None-sits, None-part, Last-part, None-free, Is-free, Filled, Freed, One-block, Cleared, Stored-parts, Stores};
 use crate::fields;
 use block::BLOCK_LENGTH;
 use block::DATA_LENGTH;
@@ -234,7 +234,7 @@ fn store(memory: &mut [u8], count: usize, slot: usize, number: usize, bytes: &[u
     requires slot { ⌜ slot < max-slots ⌝ }
     requires number { ⌜ number < max-packets ⌝ }
     requires short { ⌜ length (now bytes) ≤ max-piece ⌝ }
-    ensures stored { λ _. ⌜ Stored (block-at (now (memory .entry))) count slot number (now (bytes .entry)) (cost data-length (length (now (bytes .entry)))) (block-at (now (memory .exit))) ⌝ }
+    ensures stored { λ _. ⌜ Stored-parts (block-at (now (memory .entry))) count slot number (now (bytes .entry)) (cost data-length (length (now (bytes .entry)))) (block-at (now (memory .exit))) ⌝ }
     ensures long { λ _. ⌜ length (now (memory .exit)) ≡ length (now (memory .entry)) ⌝ }
     ensures rest { λ _. ⌜ drop (count * block-length) (now (memory .exit)) ≡ drop (count * block-length) (now (memory .entry)) ⌝ }
 {

@@ -1,6 +1,6 @@
 use borrow.Author.Needs.{needs}
 use borrow.Rule.Slice.PartMut.{putMid}
-use mathlib.Core.Path.{_≡_, sym, subst, _∙_}
+use mathlib.Core.Path.{sym, subst, _∙_}
 use mathlib.Core.List.{List}
 use native.Mathlib.Omega.{arith}
 use Prim.Native.Nat.{ℕ, _+_, _-_, _*_, _<_, _≤_}
@@ -8,7 +8,7 @@ use lib.ListN.{length}
 use Rattle.shelf.proofs.Copies.{copies-fit}
 use Rattle.block.specs.Dumps.{block-at}
 use Rattle.blocks.specs.Parts.{piece-in}
-use Rattle.blocks.specs.Steps.{Copied}
+use Rattle.blocks.specs.Steps.{Copied-parts}
 use Rattle.blocks.proofs.Cuts.{parts-end}
 use Rattle.blocks.proofs.Sounds.{part-there, piece-short}
 use Rattle.blocks.proofs.Copies.{copy-more, copy-all}
@@ -46,7 +46,7 @@ loop-index-again c =
     let long = c .piece-length-length .ensures in
     let there = part-there b (c .args .count) (c .pre .sound) (c .args .slot) (c .args .number) k (c .piece-length-length .result) part
     (omega (arith, c .part-count-index-end .ensures)) long (c .part-at-part .ensures) in
-    subst (λ (y : List ℕ). Copied p u (k + 1) (putMid (k * 500) (k * 500 + length part - k * 500) w y)) (sym (c .copy-from-slice .ensures .after))
+    subst (λ (y : List ℕ). Copied-parts p u (k + 1) (putMid (k * 500) (k * 500 + length part - k * 500) w y)) (sym (c .copy-from-slice .ensures .after))
     (copy-more p u w part k (c .loop-index .inv) (there .0) (omega arith) (there .1))
 
 pub returns : need.returns

@@ -1,4 +1,4 @@
-use mathlib.Core.Path.{ap, _∙_}
+use mathlib.Core.Path.{_∙_}
 use Rattle.blocks.proofs.Fills.{filled-long}
 use Rattle.blocks.proofs.Places.{block-here, one-block}
 use Rattle.blocks.specs.Parts.{part-from}

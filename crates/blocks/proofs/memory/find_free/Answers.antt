@@ -1,6 +1,6 @@
 use borrow.Author.Count.{below-more}
 use mathlib.Core.Path.{_≡_, sym, ap, _∙_}
-use mathlib.Core.Bool.{true, false}
+use mathlib.Core.Bool.{true}
 use native.Mathlib.Omega.{arith}
 use Rattle.block.specs.Dumps.{block-at, is-used}
 use Rattle.block.proofs.Places.{slice-block}

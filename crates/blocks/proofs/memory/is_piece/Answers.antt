@@ -1,10 +1,9 @@
 use borrow.Author.Count.{below-more}
-use mathlib.Core.Path.{_≡_, refl, sym, ap, subst, _∙_}
+use mathlib.Core.Path.{_≡_, refl, sym, ap, _∙_}
 use native.Mathlib.Omega.{arith}
-use Prim.Native.Nat.{ℕ, _<_}
+use Prim.Native.Nat.{_<_}
 use lib.ListN.{length}
 use Rattle.std.proofs.shelf.Tests.{both-ways, false≢true}
-use Rattle.shelf.specs.Units.{cost}
 use Rattle.block.specs.Dumps.{block-at}
 use Rattle.blocks.specs.Parts.{part-of, part-in, piece-in}
 use Rattle.blocks.proofs.Cuts.{part-begins, parts-three, parts-end, parts-same}

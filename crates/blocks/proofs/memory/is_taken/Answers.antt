@@ -1,8 +1,8 @@
-use mathlib.Core.Path.{_≡_, sym, _∙_}
+use mathlib.Core.Path.{sym, _∙_}
 use native.Mathlib.Omega.{arith}
 use Prim.Native.Nat.{_-_}
 use lib.ListN.{length}
-use Rattle.shelf.proofs.Takings.{takes-not-held, takes-room}
+use Rattle.shelf.proofs.Takings.{takes-room}
 use Rattle.shelf.proofs.Counts.{count-le}
 use Rattle.block.specs.Dumps.{block-at, is-used}
 use Rattle.blocks.specs.Parts.{piece-in}

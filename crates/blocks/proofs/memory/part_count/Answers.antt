@@ -1,4 +1,3 @@
-use mathlib.Core.Path.{sym, _∙_}
 use native.Mathlib.Omega.{arith}
 use Rattle.blocks.proofs.Cuts.{cost-is}
 use Rattle.blocks.proofs.memory.part_count.Needs as need

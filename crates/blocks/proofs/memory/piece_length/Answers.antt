@@ -1,4 +1,4 @@
-use mathlib.Core.Path.{_≡_, sym, ap, _∙_}
+use mathlib.Core.Path.{sym, ap, _∙_}
 use Rattle.block.specs.Fields.{whole-in}
 use Rattle.block.specs.Dumps.{block-at}
 use Rattle.block.proofs.Places.{slice-block}

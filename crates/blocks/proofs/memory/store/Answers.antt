@@ -1,13 +1,13 @@
-use mathlib.Core.Path.{_≡_, refl, sym, ap, subst, _∙_}
+use mathlib.Core.Path.{_≡_, refl, sym, subst, _∙_}
 use mathlib.Core.List.{List}
 use native.Mathlib.Omega.{arith}
-use Prim.Native.Nat.{ℕ, _*_, _<_}
+use Prim.Native.Nat.{ℕ, _*_}
 use lib.ListN.{length}
 use Rattle.shelf.specs.Units.{cost}
 use Rattle.block.specs.Blocks.{In-range}
 use Rattle.block.specs.Dumps.{block-at}
 use Rattle.blocks.specs.Parts.{part-of, part-from}
-use Rattle.blocks.specs.Steps.{Filled, Stored}
+use Rattle.blocks.specs.Steps.{Filled, Stored-parts}
 use Rattle.blocks.proofs.Places.{same-after}
 use Rattle.blocks.proofs.Cuts.{part-begins}
 use Rattle.blocks.proofs.Storings.{part-range, store-none, some-free, store-more}
@@ -67,7 +67,7 @@ returns c =
     let inv = c .loop-index .inv in
     let end : c .loop-index .index ≡ cost 500 (length bytes) = omega (arith, c .loop-index .kept .index-end, c .part-count-index-end .ensures) in
     record {
-      stored = subst (λ (k : ℕ). Stored (block-at m) (c .args .count) (c .args .slot) (c .args .number) bytes k (block-at w)) end (inv .0);
+      stored = subst (λ (k : ℕ). Stored-parts (block-at m) (c .args .count) (c .args .slot) (c .args .number) bytes k (block-at w)) end (inv .0);
       long = inv .1;
       rest = same-after m w (c .args .count * 512) (inv .1) (inv .2);
     }
