@@ -82,9 +82,17 @@ pub record Stores (m : List ℕ) (count : ℕ) (w : List ℕ) : Type 0 where
   pub rest-stays : drop (count * block-length) w ≡ drop (count * block-length) m
   pub sound : Sound (block-at w) count
 
+-- how many blocks a shelf takes of a memory
+abbrev pub blocks-taken : List ℕ → ℕ
+blocks-taken m = min (length m / block-length) max-blocks
+
 -- an empty shelf of this many blocks is made on a memory that held m and holds w
 pub record Made (m : List ℕ) (count : ℕ) (w : List ℕ) : Type 0 where
-  pub count-is : count ≡ min (length m / block-length) max-blocks
+  pub count-is : count ≡ blocks-taken m
   pub freed : (i : ℕ) → i < count → Freed (block-at w i)
   pub empty : (s n : ℕ) → piece-in (block-at w) count s n ≡ []
   pub rest-stays : drop (count * block-length) w ≡ drop (count * block-length) m
+
+-- a memory that held m and was lent to a shelf has after its blocks what it had
+abbrev pub Rest-stays : List ℕ → List ℕ → Type 0
+Rest-stays m w = drop (blocks-taken m * block-length) w ≡ drop (blocks-taken m * block-length) m

@@ -1,4 +1,7 @@
 // The calls of a shelf, at both sides of their limits.
+use block::dump::inspect;
+use blocks::BlockShelf;
+use blocks::BlockShelfShelf;
 use cells::CellShelf;
 use cells::CellShelfShelf;
 use shelf::Shelf;
@@ -64,6 +67,7 @@ fn no_room(rt: LibcRuntime) -> Result<(), Fail> {
     nothing_fits(&mut CellShelf::new(none.as_mut_slice()))?;
     let mut short = vec![in rt.alloc(); 9; 1455]?;
     nothing_fits(&mut CellShelf::new(short.as_mut_slice()))?;
+    nothing_fits(&mut BlockShelf::new(none.as_mut_slice()))?;
     check(short == vec![in rt.alloc(); 9; 1455]?).note("the memory stays")
 }
 
@@ -82,4 +86,24 @@ fn cell_shelf(rt: LibcRuntime) -> Result<(), Fail> {
         check(!shelf.put(1, 3, b"c")).note("no cell is free")?;
     }
     check(memory.ends_with(&[1; 5])).note("the rest of the memory stays")
+}
+
+#[test]
+fn block_shelf(rt: LibcRuntime) -> Result<(), Fail> {
+    let heap = rt.alloc();
+    let longest = vec![in heap; 7; 1448]?;
+    let mut memory = vec![in heap; 1; 4 * 512 + 5]?;
+    {
+        let mut shelf = BlockShelf::new(memory.as_mut_slice());
+        check_eq(shelf.free(), 4).note("whatever stood in the memory")?;
+        answers(&mut shelf, longest.as_slice())?;
+        lengths(heap, &mut shelf)?;
+        check(shelf.put(1, 1, longest.as_slice()))?;
+        check(!shelf.put(1, 2, &[9; 501])).note("one block is free, and two are wanted")?;
+        check(shelf.put(1, 2, &[9; 500])).note("one block is enough")?;
+        check(!shelf.put(1, 3, b"c")).note("no block is free")?;
+        check_eq(inspect(shelf.blocks()).ok().ok_or("unlawful")?, 4)?;
+    }
+    check(memory.ends_with(&[1; 5])).note("the rest of the memory stays")?;
+    check_eq(inspect(memory.as_slice()).ok().ok_or("unlawful")?, 4).note("the dump passes")
 }
