@@ -4,13 +4,14 @@ use mathlib.Core.Bool.{Bool, true, false, _&&_}
 use mathlib.Core.List.{List, []}
 use Prim.Native.Nat.{ℕ, _+_, _*_, _/_, _<_, _≤_, min}
 use lib.Dec.{ltb, leb}
-use lib.ListN.{length, getD, drop}
+use lib.ListN.{length, getD, take, drop}
 use Rattle.wire.specs.Limits.{max-packets, max-piece, max-slots}
 use Rattle.shelf.specs.Sums.{count-of}
 use Rattle.block.specs.Limits.{block-length, data-length}
 use Rattle.block.specs.Blocks.{Part, Lawful, used-front, free-front, sealed}
 use Rattle.block.specs.Fields.{whole-in}
-use Rattle.block.specs.Dumps.{block-at, is-used}
+use Rattle.block.specs.Dumps.{block-at, is-used, Passes}
+use Rattle.shelf.specs.Units.{units-held, takes, Puts}
 use Rattle.blocks.specs.Limits.{max-blocks}
 use Rattle.blocks.specs.Parts.{part-of, in-slot, sits, sits-part, Blocks, part-in, piece-in, Sound}
 
@@ -93,6 +94,12 @@ pub record Made (m : List ℕ) (count : ℕ) (w : List ℕ) : Type 0 where
   pub empty : (s n : ℕ) → piece-in (block-at w) count s n ≡ []
   pub rest-stays : drop (count * block-length) w ≡ drop (count * block-length) m
 
--- a memory that held m and was lent to a shelf has after its blocks what it had
-abbrev pub Rest-stays : List ℕ → List ℕ → Type 0
-Rest-stays m w = drop (blocks-taken m * block-length) w ≡ drop (blocks-taken m * block-length) m
+-- a memory that held m is lent to an empty shelf, which takes these bytes at this place or not, as r says; the memory
+-- holds w then: the shelf's pieces, and after its blocks what it had
+pub record Given-back (m : List ℕ) (slot number : ℕ) (bytes : List ℕ) (r : Bool) (w : List ℕ) : Type 0 where
+  pub long : length w ≡ length m
+  pub rest-stays : drop (blocks-taken m * block-length) w ≡ drop (blocks-taken m * block-length) m
+  pub answer-is : r ≡ takes data-length (blocks-taken m) (λ _ _. []) slot number bytes
+  pub holds-it : Puts r (λ _ _. []) slot number bytes (piece-in (block-at w) (blocks-taken m))
+  -- a dump of the blocks passes inspection, with as many used as the pieces cost
+  pub passes : Passes (take (blocks-taken m * block-length) w) (units-held data-length (piece-in (block-at w) (blocks-taken m)))

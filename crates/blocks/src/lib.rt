@@ -1,15 +1,14 @@
 // The block shelf: pieces in parts, each part in a sealed block, on memory that is lent.
 ghost use mathlib.Core.Path.{_≡_};
-ghost use mathlib.Core.List.{[]};
 ghost use Prim.Native.Nat.{_*_, _≤_};
 ghost use lib.ListN.{length, take, drop};
 ghost use denote.Ref.{now, name};
 ghost use Rattle.std.specs.declared.result.Result.the-variants.{Ok};
-ghost use Rattle.shelf.specs.Units.{takes, units-held};
+ghost use Rattle.shelf.specs.Units.{units-held};
 ghost use Rattle.block.specs.Limits.{block-length, data-length};
 ghost use Rattle.block.specs.Dumps.{block-at, Passes};
 ghost use Rattle.blocks.specs.Parts.{piece-in, Sound};
-ghost use Rattle.blocks.specs.Steps.{blocks-taken, Made, Rest-stays};
+ghost use Rattle.blocks.specs.Steps.{Made, Given-back};
 use block::BLOCK_LENGTH;
 use block::DATA_LENGTH;
 use block::dump;
@@ -124,8 +123,7 @@ pub impl<'a> Shelf for BlockShelf<'a> as BlockShelfShelf {
 /// Whether an empty shelf on this memory takes the bytes at the place. The memory is lent to such a shelf and
 /// given back; what stands in it after the blocks is as it was.
 pub fn takes_one(memory: &mut [u8], slot: usize, number: usize, bytes: &[u8]) -> bool
-    ensures answer { λ r. ⌜ r ≡ takes data-length (blocks-taken (now (memory .entry))) (λ _ _. []) slot number (now (bytes .entry)) ⌝ }
-    ensures rest { λ _. ⌜ Rest-stays (now (memory .entry)) (now (memory .exit)) ⌝ }
+    ensures { λ r. ⌜ Given-back (now (memory .entry)) slot number (now (bytes .entry)) r (now (memory .exit)) ⌝ }
 {
     let mut shelf = BlockShelf::new(memory);
     shelf.put(slot, number, bytes)

@@ -6,6 +6,7 @@ use Prim.Native.Nat.{ℕ, _+_, _*_, _/_, _<_, _≤_, min}
 use lib.Dec.{ltb, leb}
 use lib.ListN.{length, getD, drop}
 use Rattle.wire.specs.Limits.{max-packets, max-piece, max-slots}
+use Rattle.shelf.specs.Units.{takes, Puts}
 use Rattle.cells.specs.Limits.{cell-length, max-cells}
 use Rattle.cells.specs.Cells.{is-used, in-slot, sits, Freed, Cells, cell-at, piece-in, Sound}
 
@@ -58,6 +59,10 @@ pub record Made (m : List ℕ) (count : ℕ) (w : List ℕ) : Type 0 where
   pub empty : (s n : ℕ) → piece-in (cell-at w) count s n ≡ []
   pub rest-stays : drop (count * cell-length) w ≡ drop (count * cell-length) m
 
--- a memory that held m and was lent to a shelf has after its cells what it had
-abbrev pub Rest-stays : List ℕ → List ℕ → Type 0
-Rest-stays m w = drop (cells-taken m * cell-length) w ≡ drop (cells-taken m * cell-length) m
+-- a memory that held m is lent to an empty shelf, which takes these bytes at this place or not, as r says; the memory
+-- holds w then: the shelf's pieces, and after its cells what it had
+pub record Given-back (m : List ℕ) (slot number : ℕ) (bytes : List ℕ) (r : Bool) (w : List ℕ) : Type 0 where
+  pub long : length w ≡ length m
+  pub rest-stays : drop (cells-taken m * cell-length) w ≡ drop (cells-taken m * cell-length) m
+  pub answer-is : r ≡ takes max-piece (cells-taken m) (λ _ _. []) slot number bytes
+  pub holds-it : Puts r (λ _ _. []) slot number bytes (piece-in (cell-at w) (cells-taken m))

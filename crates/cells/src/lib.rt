@@ -1,14 +1,12 @@
 // The cell shelf: every piece in a cell of its own, on memory that is lent.
 ghost use mathlib.Core.Path.{_≡_};
-ghost use mathlib.Core.List.{[]};
 ghost use Prim.Native.Nat.{ℕ, _*_, _≤_};
 ghost use lib.ListN.{length, drop};
 ghost use denote.Ref.{now, name};
 ghost use Rattle.wire.specs.Limits.{max-piece};
 ghost use Rattle.cells.specs.Limits.{cell-length, max-cells};
 ghost use Rattle.cells.specs.Cells.{cell-at, piece-in, Sound};
-ghost use Rattle.shelf.specs.Units.{takes};
-ghost use Rattle.cells.specs.Steps.{cells-taken, Made, Rest-stays};
+ghost use Rattle.cells.specs.Steps.{Made, Given-back};
 use memory::CELL_LENGTH;
 use shelf::Shelf;
 use std::mem;
@@ -115,8 +113,7 @@ pub impl<'a> Shelf for CellShelf<'a> as CellShelfShelf {
 /// Whether an empty shelf on this memory takes the bytes at the place. The memory is lent to such a shelf and
 /// given back; what stands in it after the cells is as it was.
 pub fn takes_one(memory: &mut [u8], slot: usize, number: usize, bytes: &[u8]) -> bool
-    ensures answer { λ r. ⌜ r ≡ takes max-piece (cells-taken (now (memory .entry))) (λ _ _. []) slot number (now (bytes .entry)) ⌝ }
-    ensures rest { λ _. ⌜ Rest-stays (now (memory .entry)) (now (memory .exit)) ⌝ }
+    ensures { λ r. ⌜ Given-back (now (memory .entry)) slot number (now (bytes .entry)) r (now (memory .exit)) ⌝ }
 {
     let mut shelf = CellShelf::new(memory);
     shelf.put(slot, number, bytes)
