@@ -53,7 +53,7 @@ pub(crate) fn whole(block: &[u8]) -> usize
     ByteOrder::Big.decode_u16([block[WHOLE_AT], block[WHOLE_AT + 1]]) as usize
 }
 
-// The bytes of the piece in the block.
+// The bytes of the piece that stand in the block.
 pub(crate) fn content(block: &[u8]) -> &[u8]
     requires long { ⌜ length (now block) ≡ block-length ⌝ }
     requires short { ⌜ length-in (now block) ≤ data-length ⌝ }
@@ -63,7 +63,7 @@ pub(crate) fn content(block: &[u8]) -> &[u8]
     &block[DATA_AT..DATA_AT + length]
 }
 
-// Writes one part of a piece: these bytes, which stand at this index of the whole.
+// Writes the part of this index of a piece of `whole` bytes, and seals the block.
 pub(crate) fn fill(
     block: &mut [u8],
     slot: usize,
@@ -91,6 +91,7 @@ pub(crate) fn fill(
     seal(block);
 }
 
+// Writes a block that holds nothing, and seals it.
 pub(crate) fn free(block: &mut [u8])
     requires { ⌜ length (now block) ≡ block-length ⌝ }
     ensures { λ _. ⌜ Freed (now (block .exit)) ⌝ }
