@@ -1,4 +1,6 @@
 // The block: 512 bytes that hold one part of a piece, or nothing, with their check. `specs/Blocks.antt` has the format.
+#![tactic(auto)]
+
 ghost use Rattle.std.specs.Prelude.{◌≡◌, ◌+◌, ◌<◌, ◌≤◌, length, Decides};
 ghost use Rattle.block.specs.Limits.{block_length};
 ghost use Rattle.block.specs.Blocks.{Lawful};

@@ -1,4 +1,6 @@
 // The block shelf: pieces in parts, each part in a sealed block, on memory that is lent.
+#![tactic(auto)]
+
 ghost use Rattle.std.specs.Prelude.{◌≡◌, ◌*◌, ◌≤◌, length, take, drop, Ok};
 ghost use Rattle.shelf.specs.Units.{units_held};
 ghost use Rattle.block.specs.Limits.{block_length, data_length};

@@ -1,4 +1,6 @@
 // The cell shelf: every piece in a cell of its own, on memory that is lent.
+#![tactic(auto)]
+
 ghost use Rattle.std.specs.Prelude.{◌≡◌, ℕ, ◌*◌, ◌≤◌, length, drop};
 ghost use Rattle.wire.specs.Limits.{max_piece};
 ghost use Rattle.cells.specs.Limits.{cell_length, max_cells};

@@ -1,4 +1,6 @@
 // Reads records of datagrams from standard input, and prints what each of them is.
+#![tactic(auto)]
+
 use packet::Packet;
 use records::walk::{Visitor, visit_all};
 use std::io;

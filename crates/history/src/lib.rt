@@ -1,4 +1,6 @@
 // What a history of calls says of each id, and which answer is due to the next call. No slot, mask or table is in it.
+#![tactic(auto)]
+
 ghost use Rattle.std.specs.Prelude.{ℕ, List};
 ghost use Rattle.history.specs.Calls.{History};
 ghost use Rattle.history.specs.Stays.{Terms};

@@ -1,4 +1,6 @@
 // Reads a dump of blocks from standard input, and prints how many of them are used, or which one is unlawful.
+#![tactic(auto)]
+
 use block::dump::inspect;
 use std::io;
 use std::io::Read;

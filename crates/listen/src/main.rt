@@ -1,4 +1,6 @@
 // Hears the datagrams of a recording on standard input, and prints what becomes of each and which messages are whole.
+#![tactic(auto)]
+
 use cells::{CELL_LENGTH, CellShelf};
 use packet::Packet;
 use receiver::answers::Outcome;

@@ -1,6 +1,8 @@
 // A set of packet numbers, which are below `wire::limits::MAX_PACKETS`.
 //
 // Other crates know a set by `has` of specs/Marks.antt alone: how it stands in memory is of this crate.
+#![tactic(auto)]
+
 ghost use Rattle.std.specs.Prelude.{◌≡◌, ◌<◌, Decides, MatchOption};
 ghost use Rattle.wire.specs.Limits.{max_packets};
 ghost use Rattle.numbers.specs.Marks.{has, tally, NoneMarked, Inserted, Lowest, Highest};

@@ -1,4 +1,6 @@
 // The packet of MIOP 1.0: one datagram, one packet. `docs/PACKET.md` has the format.
+#![tactic(auto)]
+
 ghost use Rattle.std.specs.Prelude.{◌≡◌, ℕ, ◌+◌, ◌^◌, ◌<◌, ◌≤◌, true, ◌++◌, length, take, drop, Decides, MatchResult};
 ghost use Rattle.packet.specs.Packets.{shown, body_start, flags_of, header_of, canonical, Numbered, OnePacket};
 ghost use Rattle.packet.specs.Datagrams.{order_of, stop_of, PacketRefusal, Refused, Reading};

@@ -1,4 +1,6 @@
 // Two loads, each sent in portions by hand: what a program does that has its loads in pieces.
+#![tactic(auto)]
+
 use sender::ids::Issuer;
 use sender::length::BodyLength;
 use sender::open::OpenSender;

@@ -1,5 +1,7 @@
 // Records: how datagrams and preset loads stand one after the other in a file or a pipe.
 // A record is a length in two bytes, big-endian, and then as many bytes.
+#![tactic(auto)]
+
 ghost use Rattle.std.specs.Option.{MatchOption};
 ghost use Rattle.records.specs.Records.{Begins, Cut};
 

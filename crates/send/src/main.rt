@@ -1,4 +1,6 @@
 // Reads records of preset loads from standard input, and writes the packets of each load as records.
+#![tactic(auto)]
+
 ghost use Rattle.std.specs.Prelude.{◌≤◌, IfOk, vec_len};
 
 use anyhow::anyhow;

@@ -1,4 +1,6 @@
 // The sender: cuts a message that comes in portions into packets.
+#![tactic(auto)]
+
 pub mod closed;
 pub mod ids;
 pub mod length;

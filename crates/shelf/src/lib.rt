@@ -1,4 +1,6 @@
 // The packet shelf: it keeps the bodies of packets by slot and packet number.
+#![tactic(auto)]
+
 ghost use Rattle.std.specs.Prelude.{◌≡◌, ℕ, List, length, Decides};
 ghost use Rattle.std.specs.Borrow.{GName};
 ghost use Rattle.shelf.specs.Pieces.{HoldsJust, copied_length, copied_over};

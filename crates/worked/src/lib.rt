@@ -1,4 +1,6 @@
 // Worked examples of the formats, compared by tests. The crate has nothing else.
+#![tactic(auto)]
+
 #[cfg(test)]
 mod blocks;
 #[cfg(test)]
