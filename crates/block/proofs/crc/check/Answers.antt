@@ -4,14 +4,14 @@ use Rattle.block.specs.Check.{shifts, check_from}
 use Rattle.block.proofs.Lookups.{rule_by_test}
 use Rattle.block.proofs.crc.check.Goals as goal
 
-pub take-in-state-requires : goal.take-in-state-requires
+pub take_in-state-requires : goal.take_in-state-requires
 unfolding shifts
-take-in-state-requires c = rule_by_test _ tt
+take_in-state-requires c = rule_by_test _ tt
 
 pub loop-byte-preserved : goal.loop-byte-preserved
 unfolding check_from
 loop-byte-preserved c =
-    ap (λ s. check_from s (drop (c.loop-byte.byte-index + 1) c.args.bytes.now)) c.take-in-state.ensures
+    ap (λ s. check_from s (drop (c.loop-byte.byte-index + 1) c.args.bytes.now)) c.take_in-state.ensures
     ∙ (sym (at_drop_more (check_from c.loop-byte.state) c.args.bytes.now c.loop-byte.byte-index 0 (search rules)) ∙ c.loop-byte.invariant)
 
 pub returns : goal.returns

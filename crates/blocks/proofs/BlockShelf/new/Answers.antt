@@ -2,4 +2,4 @@ use Rattle.std.proofs.Common.{arith}
 use Rattle.blocks.proofs.BlockShelf.new.Goals as goal
 
 pub invariant-of-result : goal.invariant-of-result
-invariant-of-result c = let stays = c.clear-all.ensures.stays in (omega (arith, stays.long), (∣ stays.sound ∣₁, tt))
+invariant-of-result c = let stays = c.clear_all.ensures.stays in (omega (arith, stays.long), (∣ stays.sound ∣₁, tt))

@@ -2,7 +2,7 @@ use Rattle.block.specs.Dumps.{block_at}
 use Rattle.blocks.proofs.Props.{sound_of}
 use Rattle.blocks.proofs.BlockShelfShelf.length.Goals as goal
 
-pub piece-length-requires : goal.piece-length-requires
-piece-length-requires c =
+pub piece_length-requires : goal.piece_length-requires
+piece_length-requires c =
     let x = c.args.self.now in
     record { fits = x.fits; sound = sound_of (block_at x.memory.now) x.count x.sound }

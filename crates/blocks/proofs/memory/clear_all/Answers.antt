@@ -9,11 +9,11 @@ use Rattle.blocks.proofs.memory.clear_all.Goals as goal
 pub loop-i-preserved : goal.loop-i-preserved
 loop-i-preserved c =
     let i = c.loop-i.i in
-    let w = c.free-at.new.memory in
-    let one = c.free-at.ensures.one in
+    let w = c.free_at.new.memory in
+    let one = c.free_at.ensures.one in
     let inv = c.loop-i.invariant in (
       λ k l. elim (cases_eq k i) [
-        | inl e ↦ subst (λ (x : ℕ). Freed (block_at w x)) (sym e) c.free-at.ensures.freed
+        | inl e ↦ subst (λ (x : ℕ). Freed (block_at w x)) (sym e) c.free_at.ensures.freed
         | inr ne ↦ one.others k ne ∙ inv.0 k (omega (arith, ne))
       ],
       one.long ∙ inv.1,

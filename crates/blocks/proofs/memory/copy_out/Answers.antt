@@ -10,13 +10,13 @@ use Rattle.blocks.proofs.Copies.{copy_more, copy_all}
 use Rattle.blocks.proofs.memory.copy_out.Goals as goal
 
 -- where the part stands in the buffer
-within : (c : goal.After-part-at-part) → (c.loop-index.index * 500 + length c.part-at-part.result.now ≤ length c.loop-index.buffer) × (c.loop-index.index < 3)
+within : (c : goal.After-part_at-part) → (c.loop-index.index * 500 + length c.part_at-part.result.now ≤ length c.loop-index.buffer) × (c.loop-index.index < 3)
 within c =
     let b = block_at c.args.memory.now in
-    let there = part_there b c.args.count c.requires.sound c.args.slot c.args.number c.loop-index.index c.piece-length-length.result
-    c.part-at-part.result.now (omega (arith, c.part-count-index-end.ensures)) c.piece-length-length.ensures c.part-at-part.ensures in
+    let there = part_there b c.args.count c.requires.sound c.args.slot c.args.number c.loop-index.index c.piece_length-length.result
+    c.part_at-part.result.now (omega (arith, c.part_count-index-end.ensures)) c.piece_length-length.ensures c.part_at-part.ensures in
     let short = piece_short b c.args.count c.requires.sound c.args.slot c.args.number in
-    (omega (arith, c.piece-length-length.ensures), omega arith)
+    (omega (arith, c.piece_length-length.ensures), omega arith)
 
 pub overflow-mul-index : goal.overflow-mul-index
 overflow-mul-index c = let w = within c in search rules
@@ -27,8 +27,8 @@ overflow-mul-index-in-loop-index c = let w = within c in search rules
 pub overflow-add-index : goal.overflow-add-index
 overflow-add-index c = let w = within c in search rules
 
-pub slice-bounds-copy-from-slice-end : goal.slice-bounds-copy-from-slice-end
-slice-bounds-copy-from-slice-end c = let w = within c in search rules
+pub slice-bounds-copy_from_slice-end : goal.slice-bounds-copy_from_slice-end
+slice-bounds-copy_from_slice-end c = let w = within c in search rules
 
 pub loop-index-preserved : goal.loop-index-preserved
 loop-index-preserved c =
@@ -37,20 +37,20 @@ loop-index-preserved c =
     let u = c.args.buffer.now in
     let w = c.loop-index.buffer in
     let k = c.loop-index.index in
-    let part = c.part-at-part.result.now in
-    let long = c.piece-length-length.ensures in
-    let there = part_there b c.args.count c.requires.sound c.args.slot c.args.number k c.piece-length-length.result part
-    (omega (arith, c.part-count-index-end.ensures)) long c.part-at-part.ensures in
-    subst (λ (y : List ℕ). CopiedParts p u (k + 1) (put_mid (k * 500) (k * 500 + length part - k * 500) w y)) (sym c.copy-from-slice.ensures.after)
+    let part = c.part_at-part.result.now in
+    let long = c.piece_length-length.ensures in
+    let there = part_there b c.args.count c.requires.sound c.args.slot c.args.number k c.piece_length-length.result part
+    (omega (arith, c.part_count-index-end.ensures)) long c.part_at-part.ensures in
+    subst (λ (y : List ℕ). CopiedParts p u (k + 1) (put_mid (k * 500) (k * 500 + length part - k * 500) w y)) (sym c.copy_from_slice.ensures.after)
     (copy_more p u w part k c.loop-index.invariant there.0 (omega arith) there.1)
 
 pub returns : goal.returns
 returns c =
     let p = piece_in (block_at c.args.memory.now) c.args.count c.args.slot c.args.number in
     let u = c.args.buffer.now in
-    let long = c.piece-length-length.ensures in
+    let long = c.piece_length-length.ensures in
     let room : length p ≤ length u = omega arith in
-    let all : length p ≤ c.loop-index.index * 500 = let a = parts_end c.piece-length-length.result c.loop-index.index (omega (arith, c.part-count-index-end.ensures)) in omega arith in
+    let all : length p ≤ c.loop-index.index * 500 = let a = parts_end c.piece_length-length.result c.loop-index.index (omega (arith, c.part_count-index-end.ensures)) in omega arith in
     let fit = copies_fit p u room in
     record {
       answer = long ∙ fit.0;

@@ -8,14 +8,14 @@ use Rattle.blocks.proofs.Storings.{range_facts}
 use Rattle.blocks.proofs.memory.is_taken.Goals as goal
 
 pub overflow-sub-result : goal.overflow-sub-result
-overflow-sub-result c = omega (arith, c.count-used.ensures, count_le (λ i. is_used (block_at c.args.memory.now i)) c.args.count)
+overflow-sub-result c = omega (arith, c.count_used.ensures, count_le (λ i. is_used (block_at c.args.memory.now i)) c.args.count)
 
 pub returns : goal.returns
 returns c =
     let b = block_at c.args.memory.now in
     let count = c.args.count in
     let bytes = c.args.bytes.now in
-    let range = range_facts c.args.slot c.args.number (length bytes) (sym c.in_range.ensures ∙ c.if-not-in-range.false) in
+    let range = range_facts c.args.slot c.args.number (length bytes) (sym c.in_range.ensures ∙ c.if-not-in_range.false) in
     let held = held_used b count c.requires.sound in
     takes_room 500 count (piece_in b count) c.args.slot c.args.number bytes range.0 range.1 range.2 range.3
-    (omega (arith, c.piece-length.ensures)) c.part-count.result (count - c.count-used.result) c.part-count.ensures (omega (arith, c.count-used.ensures))
+    (omega (arith, c.piece_length.ensures)) c.part_count.result (count - c.count_used.result) c.part_count.ensures (omega (arith, c.count_used.ensures))

@@ -3,4 +3,4 @@ use Rattle.blocks.proofs.Cuts.{cost_is}
 use Rattle.blocks.proofs.memory.part_count.Goals as goal
 
 pub returns : goal.returns
-returns c = omega (arith, c.div-ceil.ensures, cost_is c.args.length)
+returns c = omega (arith, c.div_ceil.ensures, cost_is c.args.length)

@@ -11,7 +11,7 @@ store-requires c =
     let b = block_at c.args.memory.now in
     let count = c.args.count in
     let bytes = c.args.bytes.now in
-    let taken = takes_then 500 count (piece_in b count) c.args.slot c.args.number bytes (sym c.is-taken.ensures ∙ c.if-not-is-taken.false) in
+    let taken = takes_then 500 count (piece_in b count) c.args.slot c.args.number bytes (sym c.is_taken.ensures ∙ c.if-not-is_taken.false) in
     record {
       fits = c.requires.fits;
       sound = c.requires.sound;
@@ -30,7 +30,7 @@ returns c =
     let slot = c.args.slot in
     let number = c.args.number in
     let bytes = c.args.bytes.now in
-    let said = sym c.is-taken.ensures ∙ c.if-not-is-taken.false in
+    let said = sym c.is_taken.ensures ∙ c.if-not-is_taken.false in
     let short = (takes_then 500 count (piece_in b count) slot number bytes said).length_fits in
     let stored = c.store.ensures.stored in
     record {

@@ -13,42 +13,42 @@ pub loop-index-init : goal.loop-index-init
 loop-index-init c =
     (store_none (block_at c.args.memory.now) c.args.count c.args.slot c.args.number c.args.bytes.now c.requires.sound c.requires.absent, refl, λ _ _. refl)
 
-pub returns-in-default : goal.returns-in-default
-returns-in-default c =
+pub returns-in_default : goal.returns-in_default
+returns-in_default c =
     absurd (some_free (block_at c.args.memory.now) c.args.count c.args.slot c.args.number c.args.bytes.now c.loop-index.index
-    (block_at c.loop-index.memory) c.loop-index.invariant.0 (omega (arith, c.requires.room, c.part-count-index-end.ensures)) c.in-default.ensures)
+    (block_at c.loop-index.memory) c.loop-index.invariant.0 (omega (arith, c.requires.room, c.part_count-index-end.ensures)) c.in_default.ensures)
 
-pub part-of-requires : goal.part-of-requires
-part-of-requires c = record {
-  begins = part_begins (length c.args.bytes.now) c.loop-index.index (omega (arith, c.part-count-index-end.ensures));
+pub part_of-requires : goal.part_of-requires
+part_of-requires c = record {
+  begins = part_begins (length c.args.bytes.now) c.loop-index.index (omega (arith, c.part_count-index-end.ensures));
   short = c.requires.short;
 }
 
-pub fill-at-requires : goal.fill-at-requires
-fill-at-requires c =
+pub fill_at-requires : goal.fill_at-requires
+fill_at-requires c =
     let bytes = c.args.bytes.now in
     let k = c.loop-index.index in
     record {
       within = let w = c.in-Some.ensures.within in omega (arith, c.loop-index.invariant.1, c.requires.fits);
-      range = subst (λ (x : List ℕ). InRange (part_from c.args.slot c.args.number k (length bytes) x)) (sym c.part-of.ensures)
+      range = subst (λ (x : List ℕ). InRange (part_from c.args.slot c.args.number k (length bytes) x)) (sym c.part_of.ensures)
           (part_range c.args.slot c.args.number bytes k c.requires.slot c.requires.number c.requires.short
-          (λ i. let t = c.type-inv.bytes i in omega arith) (omega (arith, c.part-count-index-end.ensures)));
+          (λ i. let t = c.type-inv.bytes i in omega arith) (omega (arith, c.part_count-index-end.ensures)));
     }
 
 pub loop-index-preserved : goal.loop-index-preserved
 loop-index-preserved c =
     let m = c.args.memory.now in
     let v = c.loop-index.memory in
-    let w = c.fill-at.new.memory in
+    let w = c.fill_at.new.memory in
     let bytes = c.args.bytes.now in
     let k = c.loop-index.index in
     let inv = c.loop-index.invariant in
     let is_free = c.in-Some.ensures in
-    let one = c.fill-at.ensures.one in
+    let one = c.fill_at.ensures.one in
     let range = part_range c.args.slot c.args.number bytes k c.requires.slot c.requires.number c.requires.short
-    (λ i. let t = c.type-inv.bytes i in omega arith) (omega (arith, c.part-count-index-end.ensures)) in
+    (λ i. let t = c.type-inv.bytes i in omega arith) (omega (arith, c.part_count-index-end.ensures)) in
     let filled : Filled (part_from c.args.slot c.args.number k (length bytes) (part_of bytes k)) (block_at w c.in-Some.at) =
-    subst (λ (x : List ℕ). Filled (part_from c.args.slot c.args.number k (length bytes) x) (block_at w c.in-Some.at)) c.part-of.ensures c.fill-at.ensures.filled in (
+    subst (λ (x : List ℕ). Filled (part_from c.args.slot c.args.number k (length bytes) x) (block_at w c.in-Some.at)) c.part_of.ensures c.fill_at.ensures.filled in (
       store_more (block_at m) (block_at v) (block_at w) c.args.count c.args.slot c.args.number bytes k c.in-Some.at inv.0
           is_free.within is_free.unused range filled one.others,
       one.long ∙ inv.1,
@@ -61,7 +61,7 @@ returns c =
     let w = c.loop-index.memory in
     let bytes = c.args.bytes.now in
     let inv = c.loop-index.invariant in
-    let end : c.loop-index.index ≡ cost 500 (length bytes) = omega (arith, c.loop-index.auto.index-end, c.part-count-index-end.ensures) in
+    let end : c.loop-index.index ≡ cost 500 (length bytes) = omega (arith, c.loop-index.auto.index-end, c.part_count-index-end.ensures) in
     record {
       stored = subst (λ (k : ℕ). StoredParts (block_at m) c.args.count c.args.slot c.args.number bytes k (block_at w)) end inv.0;
       long = inv.1;

@@ -8,10 +8,10 @@ use Rattle.cells.proofs.CellShelfShelf.free.Goals as goal
 pub overflow-sub-result : goal.overflow-sub-result
 overflow-sub-result c =
     let x = c.args.self.now in
-    omega (arith, c.count-used.ensures, count_le (λ i. is_used (cell_at x.memory.now i)) x.count)
+    omega (arith, c.count_used.ensures, count_le (λ i. is_used (cell_at x.memory.now i)) x.count)
 
 pub returns : goal.returns
 returns c =
     let x = c.args.self.now in
     let b = cell_at x.memory.now in
-    omega (arith, c.count-used.ensures, held_used b x.count (sound_of b x.count x.sound))
+    omega (arith, c.count_used.ensures, held_used b x.count (sound_of b x.count x.sound))

@@ -5,13 +5,13 @@ use Rattle.cells.proofs.memory.clear.Goals as goal
 pub returns : goal.returns
 returns c =
     let b = cell_at c.args.memory.now in
-    let d = cell_at c.free-slot.new.memory in
-    let cleared = c.free-slot.ensures.cleared in
+    let d = cell_at c.free_slot.new.memory in
+    let cleared = c.free_slot.ensures.cleared in
     record {
       after = clear_clears b c.args.slot c.args.count d cleared c.requires.sound;
       stays = record {
-        long = c.free-slot.ensures.long;
-        rest_stays = c.free-slot.ensures.rest;
+        long = c.free_slot.ensures.long;
+        rest_stays = c.free_slot.ensures.rest;
         sound = clear_sound b c.args.slot c.args.count d cleared c.requires.sound;
       };
     }

@@ -9,19 +9,19 @@ loop-i-preserved c =
     let m = c.args.memory.now in
     let i = c.loop-i.i - 1 in
     let at = λ (x : List ℕ). sits x c.args.slot c.args.number in
-    let off : at (cell_at m i) ≡ false = ap at (sym (slice_cell m i)) ∙ (sym c.is-at.ensures ∙ c.if-is-at.false) in
+    let off : at (cell_at m i) ≡ false = ap at (sym (slice_cell m i)) ∙ (sym c.is_at.ensures ∙ c.if-is_at.false) in
     λ k l h. elim (cases_eq k i) [
       | inl e ↦ ap (λ x. at (cell_at m x)) e ∙ off
       | inr ne ↦ c.loop-i.invariant k (omega (arith, ne)) h
     ]
 
-pub returns-then-is-at : goal.returns-then-is-at
-returns-then-is-at c =
+pub returns-then-is_at : goal.returns-then-is_at
+returns-then-is_at c =
     let m = c.args.memory.now in
     let i = c.loop-i.i - 1 in
     let at = λ (x : List ℕ). sits x c.args.slot c.args.number in
     record {
       within = omega arith;
-      here = ap at (sym (slice_cell m i)) ∙ (sym c.is-at.ensures ∙ c.if-is-at.true);
+      here = ap at (sym (slice_cell m i)) ∙ (sym c.is_at.ensures ∙ c.if-is_at.true);
       none_after = λ k l h. c.loop-i.invariant k (omega arith) h;
     }

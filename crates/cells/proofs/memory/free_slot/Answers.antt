@@ -5,7 +5,7 @@ use Rattle.cells.specs.Steps.{Cleared}
 use Rattle.cells.proofs.Places.{slice_cell, same_after}
 use Rattle.cells.proofs.Clearings.{clear_more, clear_skip}
 use Rattle.cells.proofs.memory.free_slot.Goals as goal
-use Rattle.cells.proofs.memory.free_slot.Goals.{then-is-in-slot, else-is-in-slot}
+use Rattle.cells.proofs.memory.free_slot.Goals.{then-is_in_slot, else-is_in_slot}
 
 pub loop-i-preserved : goal.loop-i-preserved
 loop-i-preserved c =
@@ -15,19 +15,19 @@ loop-i-preserved c =
     let i = c.loop-i.i in
     let slot = c.args.slot in
     let inv = c.loop-i.invariant in
-    let said : in_slot (b i) slot ≡ c.is-in-slot.result =
-    ap (λ x. in_slot x slot) (sym (inv.0.later i (omega arith)) ∙ sym (slice_cell v i)) ∙ sym c.is-in-slot.ensures in
+    let said : in_slot (b i) slot ≡ c.is_in_slot.result =
+    ap (λ x. in_slot x slot) (sym (inv.0.later i (omega arith)) ∙ sym (slice_cell v i)) ∙ sym c.is_in_slot.ensures in
     let Goal = λ (w : List ℕ). Cleared b slot (i + 1) (cell_at w) × (length w ≡ length m) × ((k : ℕ) → c.args.count * cell_length ≤ k → get_or w k 0 ≡ get_or m k 0) in
-    elim c.if-is-in-slot.branch [
-      | then-is-in-slot w ↦
-          let one = w.free-at.ensures.one in
+    elim c.if-is_in_slot.branch [
+      | then-is_in_slot w ↦
+          let one = w.free_at.ensures.one in
           subst Goal (sym w.memory-is) (
-            clear_more b slot i (cell_at v) inv.0 (cell_at w.free-at.new.memory) (said ∙ w.if-is-in-slot.true) w.free-at.ensures.freed one.others,
+            clear_more b slot i (cell_at v) inv.0 (cell_at w.free_at.new.memory) (said ∙ w.if-is_in_slot.true) w.free_at.ensures.freed one.others,
             one.long ∙ inv.1,
             λ k l. one.past k (omega arith) ∙ inv.2 k l,
           )
-      | else-is-in-slot w ↦
-          subst Goal (sym w.memory-is) (clear_skip b slot i (cell_at v) inv.0 (said ∙ w.if-is-in-slot.false), inv.1, inv.2)
+      | else-is_in_slot w ↦
+          subst Goal (sym w.memory-is) (clear_skip b slot i (cell_at v) inv.0 (said ∙ w.if-is_in_slot.false), inv.1, inv.2)
     ]
 
 pub returns : goal.returns

@@ -8,15 +8,15 @@ use Rattle.cells.proofs.Sounds.{none_sits}
 use Rattle.cells.proofs.Puttings.{range_facts, no_room, some_room, put_puts, put_sound}
 use Rattle.cells.proofs.memory.put.Goals as goal
 
-pub returns-in-default : goal.returns-in-default
-returns-in-default c =
+pub returns-in_default : goal.returns-in_default
+returns-in_default c =
     let b = cell_at c.args.memory.now in
     let count = c.args.count in
     let bytes = c.args.bytes.now in
-    let range = range_facts c.args.slot c.args.number (length bytes) (sym c.in_range.ensures ∙ c.if-not-in-range.false) in
+    let range = range_facts c.args.slot c.args.number (length bytes) (sym c.in_range.ensures ∙ c.if-not-in_range.false) in
     record {
       answer = takes_not_full max_piece count (piece_in b count) c.args.slot c.args.number bytes
-          (no_room b count (length bytes) c.requires.sound c.in-default.ensures range.2 range.3);
+          (no_room b count (length bytes) c.requires.sound c.in_default.ensures range.2 range.3);
       after = λ _ _. refl;
       stays = record { long = refl; rest_stays = refl; sound = c.requires.sound };
     }
@@ -24,7 +24,7 @@ returns-in-default c =
 pub returns : goal.returns
 returns c =
     let m = c.args.memory.now in
-    let w = c.fill-at.new.memory in
+    let w = c.fill_at.new.memory in
     let b = cell_at m in
     let d = cell_at w in
     let count = c.args.count in
@@ -32,12 +32,12 @@ returns c =
     let number = c.args.number in
     let bytes = c.args.bytes.now in
     let j = c.in-Some.index in
-    let range = range_facts slot number (length bytes) (sym c.in_range.ensures ∙ c.if-not-in-range.false) in
-    let empty : length (piece_in b count slot number) ≡ 0 = let e = ap length c.piece-at.ensures in omega arith in
+    let range = range_facts slot number (length bytes) (sym c.in_range.ensures ∙ c.if-not-in_range.false) in
+    let empty : length (piece_in b count slot number) ≡ 0 = let e = ap length c.piece_at.ensures in omega arith in
     let absent = none_sits b count c.requires.sound slot number empty in
     let free = c.in-Some.ensures in
-    let one = c.fill-at.ensures.one in
-    let filled = c.fill-at.ensures.filled in
+    let one = c.fill_at.ensures.one in
+    let filled = c.fill_at.ensures.filled in
     record {
       answer = takes_so max_piece count (piece_in b count) slot number bytes record {
         slot_fits = range.0;

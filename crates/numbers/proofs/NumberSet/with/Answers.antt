@@ -10,7 +10,7 @@ unfolding has
 returns c =
     let m = c.args.self.bits in
     let n = c.args.n in
-    let e = one_shl n 64 c.if-n-ge-MAX-PACKETS.false in
+    let e = one_shl n 64 c.if-n-ge-MAX_PACKETS.false in
     record {
       here = λ l. ap (λ (x : ℕ). bit (bit_or m x) n) e ∙ bit_set_here m n;
       there = λ k ne. ap (λ (x : ℕ). bit (bit_or m x) k) e ∙ bit_set_there m n k ne;

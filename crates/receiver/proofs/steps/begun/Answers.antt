@@ -8,8 +8,8 @@ seam xs ys zs e = ap (λ (n : List ℕ). take (length n) (xs ++ zs)) (sym e) ∙
 
 pub returns : goal.returns
 returns c = record {
-  named = λ _. (refl, c.requires, seam c.copy-from-slice.new.self c.args.id.now _ c.copy-from-slice.ensures.after);
+  named = λ _. (refl, c.requires, seam c.copy_from_slice.new.self c.args.id.now _ c.copy_from_slice.ensures.after);
   phased = λ _. refl;
   empty = λ _. c.empty.ensures;
-  old = λ t. absurd (both_ways c.in-use.result c.if-in-use.false (c.in-use.ensures ∙ t));
+  old = λ t. absurd (both_ways c.in_use.result c.if-in_use.false (c.in_use.ensures ∙ t));
 }

@@ -11,7 +11,7 @@ loop-number-init g c =
 
 pub overflow-add-at : goal.overflow-add-at
 overflow-add-at g c =
-    let r = join_ends c.copy-out-at.result _ c.loop-number.buffer c.loop-number.at (length c.args.buffer.now) c.loop-number.auto.buffer c.loop-number.invariant.0 c.copy-out-at.ensures.answer in
+    let r = join_ends c.copy_out-at.result _ c.loop-number.buffer c.loop-number.at (length c.args.buffer.now) c.loop-number.auto.buffer c.loop-number.invariant.0 c.copy_out-at.ensures.answer in
     search rules
 
 pub loop-number-preserved : goal.loop-number-preserved
@@ -20,13 +20,13 @@ loop-number-preserved g c =
     let n = c.loop-number.number in
     let at = c.loop-number.at in
     let was = c.args.buffer.now in
-    let r = c.copy-out-at.result in (
-      join_ends r _ c.loop-number.buffer at (length was) c.loop-number.auto.buffer c.loop-number.invariant.0 c.copy-out-at.ensures.answer,
+    let r = c.copy_out-at.result in (
+      join_ends r _ c.loop-number.buffer at (length was) c.loop-number.auto.buffer c.loop-number.invariant.0 c.copy_out-at.ensures.answer,
       λ fits.
           let inv = c.loop-number.invariant.1 fits in
           let room : at + length (p n) ≤ length was = omega (arith, fits, joined_le p (suc n) c.args.count (omega arith), ap length (joined_more p n), length-append (joined p n) (p n), inv.0) in
-          let told : r ≡ length (p n) = join_count (joined p n) (p n) was c.loop-number.buffer c.copy-out-at.new.buffer at (length was) r inv.0 inv.1 refl room c.copy-out-at.ensures.wrote c.copy-out-at.ensures.answer in
+          let told : r ≡ length (p n) = join_count (joined p n) (p n) was c.loop-number.buffer c.copy_out-at.new.buffer at (length was) r inv.0 inv.1 refl room c.copy_out-at.ensures.wrote c.copy_out-at.ensures.answer in
           let more : joined p (n + 1) ≡ joined p n ++ p n = ap (joined p) (add-one n) ∙ joined_more p n in
-          let is = join_more (joined p n) (p n) was c.loop-number.buffer c.copy-out-at.new.buffer at (length was) r inv.0 inv.1 refl room c.copy-out-at.ensures.wrote c.copy-out-at.ensures.answer in
+          let is = join_more (joined p n) (p n) was c.loop-number.buffer c.copy_out-at.new.buffer at (length was) r inv.0 inv.1 refl room c.copy_out-at.ensures.wrote c.copy_out-at.ensures.answer in
           (omega (arith, ap length more, length-append (joined p n) (p n), inv.0, told), is ∙ ap (λ (x : List ℕ). x ++ drop (at + r) was) (sym more)),
     )

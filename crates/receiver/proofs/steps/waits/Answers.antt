@@ -9,7 +9,7 @@ pub returns-in-Sound : goal.returns-in-Sound
 returns-in-Sound c = λ unit l piece m.
     let x = in_phase unit l c.args.slot piece Sound c.in-Sound.is m in
     let d = extent_decides c.whole.result l.heard piece (c.whole.ensures l.heard piece x.1) in
-    let e = c.is-some.ensures in
+    let e = c.is_some.ensures in
     (λ t. (x.0, d.0 (sym e ∙ t)), λ w. e ∙ d.1 w.1)
 
 pub returns-in-Free : goal.returns-in-Free

@@ -12,4 +12,4 @@ loop-record-preserved g c =
     (passed_more c.loop-record.invariant.0 b, omega arith)
 
 pub returns : goal.returns
-returns g c = passed_walked c.loop-record.invariant.0 c.in-default.ensures
+returns g c = passed_walked c.loop-record.invariant.0 c.in_default.ensures

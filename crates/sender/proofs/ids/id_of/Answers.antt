@@ -6,6 +6,6 @@ use Rattle.sender.proofs.ids.id_of.Goals as goal
 
 pub returns : goal.returns
 returns c =
-    let en : c.to-be-bytes.result ≡ digits Big 8 c.args.node = search rules in
-    let ek : c.to-be-bytes-2.result ≡ digits Big 4 c.args.serial = search rules in
+    let en : c.to_be_bytes.result ≡ digits Big 8 c.args.node = search rules in
+    let ek : c.to_be_bytes-2.result ≡ digits Big 4 c.args.serial = search rules in
     id_is c.args.node c.args.serial _ _ en ek

@@ -13,9 +13,9 @@ returns-then-message-cut c =
     let same = c.value-cut.ensures.same in
     record { same_buffer = refl; cause = too_long c.refused.ensures (omega arith) }
 
-pub returns-then-is-empty : goal.returns-then-is-empty
-returns-then-is-empty c =
-    record { same_buffer = refl; cause = no_byte c.refused-then-is-empty.ensures (nil_from_length c.args.message.now (search rules)) }
+pub returns-then-is_empty : goal.returns-then-is_empty
+returns-then-is_empty c =
+    record { same_buffer = refl; cause = no_byte c.refused-then-is_empty.ensures (nil_from_length c.args.message.now (search rules)) }
 
 pub returns-then-buffer-full : goal.returns-then-buffer-full
 returns-then-buffer-full c =
@@ -40,8 +40,8 @@ unreachable-requires c =
     let some : 0 < length m = search rules in
     let same = c.value-cut.ensures.same in
     let fresh : sending c.begin-sender.result.state ≡ new_sending p = c.begin-sender.ensures.fresh ∙ ap (λ k. new_sending (plan_by k c.args.ticket.id c.args.order)) (sym same) in
-    let U : Sending → Type 0 = λ s. Unadded s m was c.add.new.buffer c.in-default.field-0 (sending c.add.new.self.state) in
-    add_never p lp m some (omega arith) was (omega arith) (subst U fresh c.in-default.ensures)
+    let U : Sending → Type 0 = λ s. Unadded s m was c.add.new.buffer c.in_default.field-0 (sending c.add.new.self.state) in
+    add_never p lp m some (omega arith) was (omega arith) (subst U fresh c.in_default.ensures)
 
 pub overflow-mul-at : goal.overflow-mul-at
 overflow-mul-at c =
@@ -58,8 +58,8 @@ overflow-mul-at c =
     let w = full_within p lp m some (omega arith) was (omega arith) c.add.new.buffer c.in-Ok.count (search rules) a in
     search rules
 
-pub slice-bounds-write-final-count : goal.slice-bounds-write-final-count
-slice-bounds-write-final-count c =
+pub slice-bounds-write_final-count : goal.slice-bounds-write_final-count
+slice-bounds-write_final-count c =
     let cut = c.value-cut.result in
     let p = plan_by cut c.args.ticket.id c.args.order in
     let lp : LawfulPlan p = record { lawful_cut = c.value-cut.ensures.lawful; id_size = search rules } in
@@ -73,8 +73,8 @@ slice-bounds-write-final-count c =
     let w = full_within p lp m some (omega arith) was (omega arith) c.add.new.buffer c.in-Ok.count (search rules) a in
     w
 
-pub slice-bounds-write-final-start : goal.slice-bounds-write-final-start
-slice-bounds-write-final-start c =
+pub slice-bounds-write_final-start : goal.slice-bounds-write_final-start
+slice-bounds-write_final-start c =
     let cut = c.value-cut.result in
     let p = plan_by cut c.args.ticket.id c.args.order in
     let lp : LawfulPlan p = record { lawful_cut = c.value-cut.ensures.lawful; id_size = search rules } in
@@ -88,8 +88,8 @@ slice-bounds-write-final-start c =
     let w = full_within p lp m some (omega arith) was (omega arith) c.add.new.buffer c.in-Ok.count (search rules) a in
     search rules
 
-pub unreachable-requires-in-default-write-final : goal.unreachable-requires-in-default-write-final
-unreachable-requires-in-default-write-final c =
+pub unreachable-requires-in_default-write_final : goal.unreachable-requires-in_default-write_final
+unreachable-requires-in_default-write_final c =
     let cut = c.value-cut.result in
     let p = plan_by cut c.args.ticket.id c.args.order in
     let lp : LawfulPlan p = record { lawful_cut = c.value-cut.ensures.lawful; id_size = search rules } in
@@ -102,8 +102,8 @@ unreachable-requires-in-default-write-final c =
     let a = subst A fresh c.in-Ok.ensures in
     let w = full_within p lp m some (omega arith) was (omega arith) c.add.new.buffer c.in-Ok.count (search rules) a in
     let left = take (length c.add.new.buffer - c.in-Ok.count * full_size p) (drop (c.in-Ok.count * full_size p) c.add.new.buffer) in
-    let U : Sending → Type 0 = λ s. Unended s left c.write-final.new.buffer c.in-default-write-final.field-0 in
-    end_never p lp m some (omega arith) was (omega arith) c.add.new.buffer c.in-Ok.count (search rules) a (subst U c.close.ensures c.in-default-write-final.ensures)
+    let U : Sending → Type 0 = λ s. Unended s left c.write_final.new.buffer c.in_default-write_final.field-0 in
+    end_never p lp m some (omega arith) was (omega arith) c.add.new.buffer c.in-Ok.count (search rules) a (subst U c.close.ensures c.in_default-write_final.ensures)
 
 pub overflow-add-result : goal.overflow-add-result
 overflow-add-result c =
@@ -119,9 +119,9 @@ overflow-add-result c =
     let a = subst A fresh c.in-Ok.ensures in
     let w = full_within p lp m some (omega arith) was (omega arith) c.add.new.buffer c.in-Ok.count (search rules) a in
     let left = take (length c.add.new.buffer - c.in-Ok.count * full_size p) (drop (c.in-Ok.count * full_size p) c.add.new.buffer) in
-    let E : Sending → Type 0 = λ s. Ended s left c.write-final.new.buffer c.in-Ok-write-final.last in
-    let e = subst E c.close.ensures c.in-Ok-write-final.ensures in
-    let l = last_within p lp m some (omega arith) was (omega arith) c.add.new.buffer c.in-Ok.count (search rules) a c.write-final.new.buffer c.in-Ok-write-final.last e in
+    let E : Sending → Type 0 = λ s. Ended s left c.write_final.new.buffer c.in-Ok-write_final.last in
+    let e = subst E c.close.ensures c.in-Ok-write_final.ensures in
+    let l = last_within p lp m some (omega arith) was (omega arith) c.add.new.buffer c.in-Ok.count (search rules) a c.write_final.new.buffer c.in-Ok-write_final.last e in
     search rules
 
 pub returns : goal.returns
@@ -138,9 +138,9 @@ returns c =
     let a = subst A fresh c.in-Ok.ensures in
     let w = full_within p lp m some (omega arith) was (omega arith) c.add.new.buffer c.in-Ok.count (search rules) a in
     let left = take (length c.add.new.buffer - c.in-Ok.count * full_size p) (drop (c.in-Ok.count * full_size p) c.add.new.buffer) in
-    let E : Sending → Type 0 = λ s. Ended s left c.write-final.new.buffer c.in-Ok-write-final.last in
-    let e = subst E c.close.ensures c.in-Ok-write-final.ensures in
+    let E : Sending → Type 0 = λ s. Ended s left c.write_final.new.buffer c.in-Ok-write_final.last in
+    let e = subst E c.close.ensures c.in-Ok-write_final.ensures in
     let at = c.in-Ok.count * full_size p in
-    let new = put_mid at (length c.add.new.buffer - at) c.add.new.buffer c.write-final.new.buffer in
-    let W : ℕ → Type 0 = λ k. MessageWritten (plan_by k c.args.ticket.id c.args.order) m was new (c.in-Ok.count * full_size p + c.in-Ok-write-final.last) in
-    subst W same (whole_written p lp m some (omega arith) was (omega arith) c.add.new.buffer c.in-Ok.count (search rules) a c.write-final.new.buffer c.in-Ok-write-final.last e new refl)
+    let new = put_mid at (length c.add.new.buffer - at) c.add.new.buffer c.write_final.new.buffer in
+    let W : ℕ → Type 0 = λ k. MessageWritten (plan_by k c.args.ticket.id c.args.order) m was new (c.in-Ok.count * full_size p + c.in-Ok-write_final.last) in
+    subst W same (whole_written p lp m some (omega arith) was (omega arith) c.add.new.buffer c.in-Ok.count (search rules) a c.write_final.new.buffer c.in-Ok-write_final.last e new refl)

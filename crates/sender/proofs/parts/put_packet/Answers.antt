@@ -10,7 +10,7 @@ pub unreachable-requires : goal.unreachable-requires
 unreachable-requires c =
     let was = c.args.buffer.now in
     let l = ap length (take_rest was c.args.at) ∙ length-drop c.args.at was in
-    unwritten_never (shown c.args.packet.now) _ _ _ c.requires.range (omega arith) c.in-default.ensures
+    unwritten_never (shown c.args.packet.now) _ _ _ c.requires.range (omega arith) c.in_default.ensures
 
 pub returns : goal.returns
 returns c =

@@ -6,4 +6,4 @@ use Rattle.collection.proofs.summary.Summary.longer_stop.Goals as goal
 pub returns : goal.returns
 returns c = λ ps piece o.
     let q : FragmentValue = shown c.args.packet in
-    either_in ps (LongerStop q) (λ a. LongerStop a q) c.longer-new.result c.longer-heard.result (c.longer-new.ensures ps piece o) (c.longer-heard.ensures ps piece o)
+    either_in ps (LongerStop q) (λ a. LongerStop a q) c.longer_new.result c.longer_heard.result (c.longer_new.ensures ps piece o) (c.longer_heard.ensures ps piece o)

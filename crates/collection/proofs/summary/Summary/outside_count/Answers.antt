@@ -6,4 +6,4 @@ use Rattle.collection.proofs.summary.Summary.outside_count.Goals as goal
 pub returns : goal.returns
 returns c = λ ps piece o.
     let q : FragmentValue = shown c.args.packet in
-    either_in ps (OutsideCount q) (λ a. OutsideCount a q) c.outside-new.result c.outside-said.result (c.outside-new.ensures ps piece o) (c.outside-said.ensures ps piece o)
+    either_in ps (OutsideCount q) (λ a. OutsideCount a q) c.outside_new.result c.outside_said.result (c.outside_new.ensures ps piece o) (c.outside_said.ensures ps piece o)

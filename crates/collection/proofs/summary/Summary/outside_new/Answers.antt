@@ -13,7 +13,7 @@ returns c = λ ps piece o.
     let B : FragmentValue → Type 0 = λ a. (a.stop ≡ true) × (a.number < end) in
     let G : FragmentValue → Type 0 = λ a. (a.stop ≡ false) × (a.number ≡ end) in
     let x = c.reaches.result in
-    let y = c.stops-below.result in
-    let z = c.goes-on-at.result in
+    let y = c.stops_below.result in
+    let z = c.goes_on_at.result in
     alike_in ps (λ a. (R a ⊎ B a) ⊎ G a) (OutsideCount q) ((x || y) || z) (λ a h. outside_forth q a end e h) (λ a h. outside_back q a end e h)
-    (either_in ps (λ a. R a ⊎ B a) G (x || y) z (either_in ps R B x y (c.reaches.ensures ps piece o) (c.stops-below.ensures ps piece o)) (c.goes-on-at.ensures ps piece o))
+    (either_in ps (λ a. R a ⊎ B a) G (x || y) z (either_in ps R B x y (c.reaches.ensures ps piece o) (c.stops_below.ensures ps piece o)) (c.goes_on_at.ensures ps piece o))

@@ -13,8 +13,8 @@ use Rattle.receiver.proofs.Changes.{explains_as, terms_as, lent_as, quiet_keeps}
 use Rattle.receiver.proofs.Fetches.{fetch_none, fetch_due, fetch_refused, fetch_taken, fetch_keeps, gives_at, size_known}
 use Rattle.receiver.proofs.receiver.Receiver.fetch.Goals as goal
 
-pub returns-in-default : goal.returns-in-default
-returns-in-default g c =
+pub returns-in_default : goal.returns-in_default
+returns-in_default g c =
     let s : Seen = seen g.S.Shelf c.args.self.now in
     let n = length c.args.buffer.now in
     let is = refused_so 26 c.refusal.result c.refusal.ensures in
@@ -23,7 +23,7 @@ returns-in-default g c =
         same_terms = refl;
         same_lent = refl;
         keeps_slots = λ h ex. quiet_keeps h s ex;
-        due = λ h ex. fetch_none h s ex c.args.id.now n c.in-default.ensures _ is;
+        due = λ h ex. fetch_none h s ex c.args.id.now n c.in_default.ensures _ is;
         explained = λ h ex. fetch_refused h s ex c.args.id.now n _ refl s.lent;
       };
       buffer = λ h ex. refl;
@@ -80,19 +80,19 @@ returns-in-Fetched g c =
       buffer = λ h ex. refl;
     }
 
-pub returns-in-default-whole : goal.returns-in-default-whole
-returns-in-default-whole g c =
+pub returns-in_default-whole : goal.returns-in_default-whole
+returns-in_default-whole g c =
     let s : Seen = seen g.S.Shelf c.args.self.now in
     let k = c.in-Some.k in
     let n = length c.args.buffer.now in
-    let is = refused_so 27 c.refusal-in-default-whole.result c.refusal-in-default-whole.ensures in
+    let is = refused_so 27 c.refusal-in_default-whole.result c.refusal-in_default-whole.ensures in
     record {
       step = record {
         same_terms = refl;
         same_lent = refl;
         keeps_slots = λ h ex. quiet_keeps h s ex;
         due = λ h ex. fetch_due h s ex c.args.id.now n k c.in-Some.ensures _
-            (gives_at Sound n (at s.slots k) (s.piece k) _ c.in-Sound.is (c.whole.result, λ ps o. c.whole.ensures ps (s.piece k) o, inl (c.in-default-whole.is, is)));
+            (gives_at Sound n (at s.slots k) (s.piece k) _ c.in-Sound.is (c.whole.result, λ ps o. c.whole.ensures ps (s.piece k) o, inl (c.in_default-whole.is, is)));
         explained = λ h ex. fetch_refused h s ex c.args.id.now n _ refl s.lent;
       };
       buffer = λ h ex. refl;

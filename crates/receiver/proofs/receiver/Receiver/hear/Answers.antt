@@ -14,11 +14,11 @@ use Rattle.receiver.proofs.Changes.{explains_as, terms_as, quiet_keeps}
 use Rattle.receiver.proofs.Arrivals.{arrival_due, arrive_step, arrive_keeps, crowd_due, crowd_step, unread_due, unread_step}
 use Rattle.receiver.proofs.receiver.Receiver.hear.Goals as goal
 
-pub returns-in-err-packet : goal.returns-in-err-packet
-returns-in-err-packet g c =
+pub returns-in_err-packet : goal.returns-in_err-packet
+returns-in_err-packet g c =
     let p = err_from_is_err_and c.from-residual.result c.from-residual.ensures.1 in
     let s : Seen = seen g.S.Shelf c.args.self.now in
-    let bad = c.in-err-packet.ensures.answer in
+    let bad = c.in_err-packet.ensures.answer in
     let r = arrival_reply c.from-residual.result in
     let is = ap arrival_reply (p.1 ∙ ap Err p.2) in
     record {
@@ -30,20 +30,20 @@ returns-in-err-packet g c =
       explained = λ h ex n e. unread_step h s ex c.args.datagram.now _ bad.0 bad.1 r is n e s.lent;
     }
 
-pub returns-in-default : goal.returns-in-default
-returns-in-default g c =
+pub returns-in_default : goal.returns-in_default
+returns-in_default g c =
     let s : Seen = seen g.S.Shelf c.args.self.now in
-    let p = c.in-ok-packet.packet in
+    let p = c.in_ok-packet.packet in
     let xs = c.args.datagram.now in
-    let carries : Carries xs p.id.now (fragment_of (shown p)) = record { value = shown p; encodes = c.in-ok-packet.ensures.answer; id_is = refl; says = refl } in
+    let carries : Carries xs p.id.now (fragment_of (shown p)) = record { value = shown p; encodes = c.in_ok-packet.ensures.answer; id_is = refl; says = refl } in
     let is = refused_so 21 c.refusal.result c.refusal.ensures in
     record {
       same_terms = refl;
       same_lent = refl;
       same_count = refl;
       keeps_slots = λ h ex. quiet_keeps h s ex;
-      due = λ h ex. crowd_due h s ex xs p.id.now (fragment_of (shown p)) carries c.in-default.ensures _ is;
-      explained = λ h ex n e. crowd_step h s ex xs p.id.now (fragment_of (shown p)) carries c.in-default.ensures _ is n e s.lent;
+      due = λ h ex. crowd_due h s ex xs p.id.now (fragment_of (shown p)) carries c.in_default.ensures _ is;
+      explained = λ h ex n e. crowd_step h s ex xs p.id.now (fragment_of (shown p)) carries c.in_default.ensures _ is n e s.lent;
     }
 
 pub returns : goal.returns
@@ -51,22 +51,22 @@ returns g c =
     let S = g.S.Shelf in
     let me = c.args.self.now in
     let s : Seen = seen S me in
-    let p = c.in-ok-packet.packet in
+    let p = c.in_ok-packet.packet in
     let xs = c.args.datagram.now in
     let k = c.in-Some.k in
     let q : FragmentValue = fragment-shown c.fragment_of.result in
-    let carries : Carries xs p.id.now q = record { value = shown p; encodes = c.in-ok-packet.ensures.answer; id_is = refl; says = sym c.fragment_of.ensures } in
-    let t = c.take-in-answer.ensures in
-    let P = S.piece c.take-in-answer.new.shelf in
-    let r = arrival_reply c.take-in-answer.result.0 in
+    let carries : Carries xs p.id.now q = record { value = shown p; encodes = c.in_ok-packet.ensures.answer; id_is = refl; says = sym c.fragment_of.ensures } in
+    let t = c.take_in-answer.ensures in
+    let P = S.piece c.take_in-answer.new.shelf in
+    let r = arrival_reply c.take_in-answer.result.0 in
     let tidy : Tidy S.unit (S.capacity me.shelf) P = subst (λ (n : ℕ). Tidy S.unit n P) t.only_here.same_capacity c.tidy.ensures in
-    let terms = terms_as me.patience S.unit (S.capacity me.shelf) (S.capacity c.take-in-answer.new.shelf) t.only_here.same_capacity in
+    let terms = terms_as me.patience S.unit (S.capacity me.shelf) (S.capacity c.take_in-answer.new.shelf) t.only_here.same_capacity in
     record {
       same_terms = terms;
       same_lent = t.only_here.same_lent;
       same_count = refl;
-      keeps_slots = λ h ex. arrive_keeps h s ex xs p.id.now q carries k c.in-Some.ensures r c.begun-begun.result c.take-in-answer.result.1 P c.begun-begun.ensures t.heeds t.only_here.others tidy;
-      due = λ h ex. arrival_due h s ex xs p.id.now q carries k c.in-Some.ensures r c.begun-begun.result c.take-in-answer.result.1 P c.begun-begun.ensures t.heeds t.only_here.others tidy;
+      keeps_slots = λ h ex. arrive_keeps h s ex xs p.id.now q carries k c.in-Some.ensures r c.begun-begun.result c.take_in-answer.result.1 P c.begun-begun.ensures t.heeds t.only_here.others tidy;
+      due = λ h ex. arrival_due h s ex xs p.id.now q carries k c.in-Some.ensures r c.begun-begun.result c.take_in-answer.result.1 P c.begun-begun.ensures t.heeds t.only_here.others tidy;
       explained = λ h ex n e. explains_as _ _ _ terms refl refl refl
-          (arrive_step h s ex xs p.id.now q carries k c.in-Some.ensures r c.begun-begun.result c.take-in-answer.result.1 P c.begun-begun.ensures t.heeds t.only_here.others tidy n e s.lent);
+          (arrive_step h s ex xs p.id.now q carries k c.in-Some.ensures r c.begun-begun.result c.take_in-answer.result.1 P c.begun-begun.ensures t.heeds t.only_here.others tidy n e s.lent);
     }

@@ -6,8 +6,8 @@ use Rattle.receiver.specs.Tables.{Seen, seen}
 use Rattle.receiver.proofs.Fetches.{ask_none, ask_due, sees_at}
 use Rattle.receiver.proofs.receiver.Receiver.id_state.Goals as goal
 
-pub returns-in-default : goal.returns-in-default
-returns-in-default g c = λ h ex. ask_none h (seen g.S.Shelf c.args.self.now) ex c.args.id.now c.in-default.ensures
+pub returns-in_default : goal.returns-in_default
+returns-in_default g c = λ h ex. ask_none h (seen g.S.Shelf c.args.self.now) ex c.args.id.now c.in_default.ensures
 
 pub returns-in-Free : goal.returns-in-Free
 returns-in-Free g c = λ h ex.
@@ -39,7 +39,7 @@ pub returns-in-None : goal.returns-in-None
 returns-in-None g c = λ h ex.
     let s : Seen = seen g.S.Shelf c.args.self.now in
     let k = c.in-Some.k in
-    let n = c.heard-count.result in
-    let low = c.lowest-unheard.result in
+    let n = c.heard_count.result in
+    let low = c.lowest_unheard.result in
     ask_due h s ex c.args.id.now k c.in-Some.ensures (is_gathering n low) (sees_at Sound (at s.slots k) (s.piece k) (is_gathering n low) c.in-Sound.is
-    (c.whole.result, λ ps o. c.whole.ensures ps (s.piece k) o, inl (c.in-None.is, (n, low, (λ ps o. c.heard-count.ensures ps (s.piece k) o, λ ps o. c.lowest-unheard.ensures ps (s.piece k) o), refl))))
+    (c.whole.result, λ ps o. c.whole.ensures ps (s.piece k) o, inl (c.in-None.is, (n, low, (λ ps o. c.heard_count.ensures ps (s.piece k) o, λ ps o. c.lowest_unheard.ensures ps (s.piece k) o), refl))))

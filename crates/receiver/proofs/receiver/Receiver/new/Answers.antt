@@ -24,7 +24,7 @@ loop-slot-preserved g c =
 
 pub returns : goal.returns
 returns g c =
-    let free : (k : ℕ) → k < max_slots → used (at (replicate 8 c.free-slot.result) k) ≡ false = λ k lt. ap used (get_or-replicate 8 k c.free-slot.result no_slot lt) ∙ c.free-slot.ensures in
+    let free : (k : ℕ) → k < max_slots → used (at (replicate 8 c.free_slot.result) k) ≡ false = λ k lt. ap used (get_or-replicate 8 k c.free_slot.result no_slot lt) ∙ c.free_slot.ensures in
     record {
       law = lawful _ (nothing_yet _ (search rules) c.tidy.ensures refl free (λ k lt. c.loop-slot.invariant.0 k (omega arith)) refl);
       patience = search rules;

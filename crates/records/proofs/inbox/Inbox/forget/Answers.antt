@@ -13,4 +13,4 @@ returns c =
     let k = c.args.self.now.waiting.ok in
     let xs = vec_items c.args.self.now.waiting in
     let cut = take (c.len-length.result - c.args.used) in
-    c.truncate.ensures.items ∙ (ap cut c.copy-within.ensures.items ∙ moved_front xs c.args.used c.len-length.result (omega arith) (omega arith))
+    c.truncate.ensures.items ∙ (ap cut c.copy_within.ensures.items ∙ moved_front xs c.args.used c.len-length.result (omega arith) (omega arith))

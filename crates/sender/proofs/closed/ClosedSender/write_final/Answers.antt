@@ -25,11 +25,11 @@ returns-then-buffer-held c =
           short_end c.refused-then-buffer-held.ensures (some_message (sending st) m (omega arith) k (omega arith)) (omega arith);
     }
 
-pub put-packet-requires : goal.put-packet-requires
-put-packet-requires c =
+pub put_packet-requires : goal.put_packet-requires
+put_packet-requires c =
     let st = c.args.self.now.state in
-    let v = shown c.tail-packet-last.result in
-    let e = c.tail-packet-last.ensures in
+    let v = shown c.tail_packet-last.result in
+    let e = c.tail_packet-last.ensures in
     let l = held_long st in
     let s = size_with (sending st).plan true st.sent v (take st.held st.tail) e st.id_size in
     record { range = in_range_with (sending st).plan true st.sent v (take st.held st.tail) e st.id_size (omega arith) (omega arith) (omega arith); fits = omega arith }
@@ -37,9 +37,9 @@ put-packet-requires c =
 pub returns : goal.returns
 returns c =
     let st = c.args.self.now.state in
-    let v = shown c.tail-packet-last.result in
-    let e = c.tail-packet-last.ensures in
+    let v = shown c.tail_packet-last.result in
+    let e = c.tail_packet-last.ensures in
     let l = held_long st in
     let s = size_with (sending st).plan true st.sent v (take st.held st.tail) e st.id_size in
-    let z = c.put-packet.ensures.size in
-    record { buffer_fits = omega arith; final = λ m k. final (sending st) m (omega arith) k (omega arith) v c.args.buffer.now _ _ e z c.put-packet.ensures.after }
+    let z = c.put_packet.ensures.size in
+    record { buffer_fits = omega arith; final = λ m k. final (sending st) m (omega arith) k (omega arith) v c.args.buffer.now _ _ e z c.put_packet.ensures.after }

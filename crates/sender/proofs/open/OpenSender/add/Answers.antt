@@ -47,15 +47,15 @@ returns-then-buffer-count c =
           c.if-portion-room.false (c.followed-count.ensures.many ∙ ap (λ i. sure st.cut (i + length q)) (sym l)) c.if-buffer-count.true;
     }
 
-pub put-run-requires : goal.put-run-requires
-put-run-requires c =
+pub put_run-requires : goal.put_run-requires
+put_run-requires c =
     let st = c.args.self.now.state in
     let q = c.args.portion.now in
     let n = c.followed-count.result in
     let L = st.cut in
     let body = take L c.put-2.new.buffer in
-    let e = c.tail-packet-first.ensures in
-    let v = shown c.tail-packet-first.result in
+    let e = c.tail_packet-first.ensures in
+    let v = shown c.tail_packet-first.result in
     let lb : length body ≡ L = length-take-le L c.put-2.new.buffer (omega arith) in
     let lv : length v.body ≡ L = ap (λ w. length w.body) e ∙ lb in
     let lr = ap length (take_rest q (L - st.held)) ∙ length-drop (L - st.held) q in
@@ -99,8 +99,8 @@ returns c =
     let rest = take (length q - (L - h)) (drop (L - h) q) in
     let whole : body ++ rest ≡ take h t ++ q =
     ap (λ y. y ++ rest) first ∙ (ap (λ y. (take h t ++ take (L - h) q) ++ y) (take_rest q (L - h)) ∙ first_rest L h t q l (omega arith) (omega arith)) in
-    let e = c.tail-packet-first.ensures in
-    let v = shown c.tail-packet-first.result in
+    let e = c.tail_packet-first.ensures in
+    let v = shown c.tail_packet-first.result in
     let run = run_sure s.plan st.sent n v body rest (take h t ++ q) e lb whole in
     let size : size_of v ≡ 32 + L = size_with s.plan false st.sent v body e st.id_size ∙ ap (λ i. 32 + i) lb in
     let held = rest_held L h t q l (n * L) (h + length q - n * L) _ _ _ (omega arith) (omega arith) (take_rest q (n * L - h)) c.put-3.ensures in
@@ -110,5 +110,5 @@ returns c =
       buffer_fits = c.if-buffer-count.false;
       grown = λ m k. grown s m (omega arith) k q n _ g was _
           (message_fits s m (omega arith) k q c.room.result (omega arith) c.if-portion-room.false)
-          (c.put-run.ensures ∙ (ap (λ y. bytes_of y ++ drop (n * size_of v) was) run ∙ ap (λ i. bytes_of (map (sure_packet s.plan st.sent (take h t ++ q)) (range_with_len 0 n)) ++ drop (n * i) was) size));
+          (c.put_run.ensures ∙ (ap (λ y. bytes_of y ++ drop (n * size_of v) was) run ∙ ap (λ i. bytes_of (map (sure_packet s.plan st.sent (take h t ++ q)) (range_with_len 0 n)) ++ drop (n * i) was) size));
     }
