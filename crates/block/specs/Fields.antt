@@ -43,7 +43,7 @@ pub record PartFound (xs : List ℕ) : Type 0 where
   pub part_begins : index_in xs * data_length < whole_in xs
   pub length_is : length_in xs ≡ part_length (whole_in xs) (index_in xs)
   pub rest_zero : ZeroFrom xs (data_start + length_in xs)
-  deriving IsProp as part-found-prop
+  deriving IsProp as part_found_prop
 
 pub record FoundLawful (xs : List ℕ) : Type 0 where
   pub long : length xs ≡ block_length
@@ -51,4 +51,4 @@ pub record FoundLawful (xs : List ℕ) : Type 0 where
   pub free : slice_index_or xs 0 0 ≡ 0 → ZeroFrom xs 0
   pub used : slice_index_or xs 0 0 ≡ 1 → PartFound xs
   pub sealed : Sealed xs
-  deriving IsProp as found-lawful-prop
+  deriving IsProp as found_lawful_prop

@@ -53,4 +53,4 @@ pub record Sound (blocks : Blocks) (count : ℕ) : Type 0 where
       → length (piece_in blocks count (slot_in (blocks i)) (number_in (blocks i))) ≡ whole_in (blocks i)
   -- as many blocks are used for a place as its piece costs
   pub counts : (s n : ℕ) → count_of (λ i. sits (blocks i) s n) count ≡ cost data_length (length (piece_in blocks count s n))
-  deriving IsProp as Sound-prop
+  deriving IsProp as sound_prop

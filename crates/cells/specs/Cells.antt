@@ -40,7 +40,7 @@ pub record Noted (x : List ℕ) : Type 0 where
   pub number_fits : number_in x < max_packets
   pub some_byte : 0 < length_in x
   pub length_fits : length_in x ≤ max_piece
-  deriving IsProp as noted-prop
+  deriving IsProp as noted_prop
 
 -- the cell holds these bytes for this place
 pub record Filled (slot number : ℕ) (bytes x : List ℕ) : Type 0 where
@@ -72,4 +72,4 @@ pub record Sound (cells : Cells) (count : ℕ) : Type 0 where
   pub noted : (i : ℕ) → i < count → is_used (cells i) ≡ true → Noted (cells i)
   -- as many cells are used for a place as its piece costs
   pub counts : (s n : ℕ) → count_of (λ i. sits (cells i) s n) count ≡ cost max_piece (length (piece_in cells count s n))
-  deriving IsProp as Sound-prop
+  deriving IsProp as sound_prop

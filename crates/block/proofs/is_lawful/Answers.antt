@@ -8,7 +8,7 @@ returns c =
     let xs = c.args.block.now in
     record {
       answer = (
-        (λ t. lawful_found xs (λ i. let b = c.type-inv.block i in omega arith) (c.is_found_lawful.ensures.0 t)),
+        (λ t. lawful_found xs (λ i. let b = c.type_inv.block i in omega arith) (c.is_found_lawful.ensures.0 t)),
         (λ h. c.is_found_lawful.ensures.1 (found_lawful xs h)),
       );
       one_change = one_change;

@@ -20,4 +20,4 @@ returns c =
     let e : c.decode_u16-length.result ≡ stated input = c.decode_u16-length.ensures in
     let f = c.split_at.ensures.front in
     let b = c.split_at.ensures.back in
-    begins_same (cc) (cc) (stated_begins input (λ i. let t = c.type-inv.input i in omega arith) (omega arith) (omega arith))
+    begins_same (cc) (cc) (stated_begins input (λ i. let t = c.type_inv.input i in omega arith) (omega arith) (omega arith))

@@ -8,8 +8,8 @@ clear-requires c =
     let y = c.replace-memory.result in
     record { fits = y.fits; sound = sound_of (block_at y.memory.now) y.count y.sound }
 
-pub invariant-of-self : goal.invariant-of-self
-invariant-of-self c =
+pub invariant_of-self : goal.invariant_of-self
+invariant_of-self c =
     let y = c.replace-memory.result in
     let stays = c.clear.ensures.stays in
-    (omega (arith, stays.long, y.fits), (∣ stays.sound ∣₁, tt))
+    record { fits = omega (arith, stays.long, y.fits); sound = ∣ stays.sound ∣₁ }

@@ -18,17 +18,17 @@ within c =
     let short = piece_short b c.args.count c.requires.sound c.args.slot c.args.number in
     (omega (arith, c.piece_length-length.ensures), omega arith)
 
-pub overflow-mul-index : goal.overflow-mul-index
-overflow-mul-index c = let w = within c in search rules
+pub overflow_mul-index : goal.overflow_mul-index
+overflow_mul-index c = let w = within c in search rules
 
-pub overflow-mul-index-in-loop-index : goal.overflow-mul-index-in-loop-index
-overflow-mul-index-in-loop-index c = let w = within c in search rules
+pub overflow_mul-index-in-loop-index : goal.overflow_mul-index-in-loop-index
+overflow_mul-index-in-loop-index c = let w = within c in search rules
 
-pub overflow-add-index : goal.overflow-add-index
-overflow-add-index c = let w = within c in search rules
+pub overflow_add-index : goal.overflow_add-index
+overflow_add-index c = let w = within c in search rules
 
-pub slice-bounds-copy_from_slice-end : goal.slice-bounds-copy_from_slice-end
-slice-bounds-copy_from_slice-end c = let w = within c in search rules
+pub slice_bounds-copy_from_slice-end : goal.slice_bounds-copy_from_slice-end
+slice_bounds-copy_from_slice-end c = let w = within c in search rules
 
 pub loop-index-preserved : goal.loop-index-preserved
 loop-index-preserved c =

@@ -7,8 +7,8 @@ use Rattle.blocks.proofs.Sounds.{held_used}
 use Rattle.blocks.proofs.Storings.{range_facts}
 use Rattle.blocks.proofs.memory.is_taken.Goals as goal
 
-pub overflow-sub-result : goal.overflow-sub-result
-overflow-sub-result c = omega (arith, c.count_used.ensures, count_le (λ i. is_used (block_at c.args.memory.now i)) c.args.count)
+pub overflow_sub-result : goal.overflow_sub-result
+overflow_sub-result c = omega (arith, c.count_used.ensures, count_le (λ i. is_used (block_at c.args.memory.now i)) c.args.count)
 
 pub returns : goal.returns
 returns c =

@@ -32,7 +32,7 @@ fill_at-requires c =
       within = let w = c.in-Some.ensures.within in omega (arith, c.loop-index.invariant.1, c.requires.fits);
       range = subst (λ (x : List ℕ). InRange (part_from c.args.slot c.args.number k (length bytes) x)) (sym c.part_of.ensures)
           (part_range c.args.slot c.args.number bytes k c.requires.slot c.requires.number c.requires.short
-          (λ i. let t = c.type-inv.bytes i in omega arith) (omega (arith, c.part_count-index-end.ensures)));
+          (λ i. let t = c.type_inv.bytes i in omega arith) (omega (arith, c.part_count-index-end.ensures)));
     }
 
 pub loop-index-preserved : goal.loop-index-preserved
@@ -46,7 +46,7 @@ loop-index-preserved c =
     let is_free = c.in-Some.ensures in
     let one = c.fill_at.ensures.one in
     let range = part_range c.args.slot c.args.number bytes k c.requires.slot c.requires.number c.requires.short
-    (λ i. let t = c.type-inv.bytes i in omega arith) (omega (arith, c.part_count-index-end.ensures)) in
+    (λ i. let t = c.type_inv.bytes i in omega arith) (omega (arith, c.part_count-index-end.ensures)) in
     let filled : Filled (part_from c.args.slot c.args.number k (length bytes) (part_of bytes k)) (block_at w c.in-Some.at) =
     subst (λ (x : List ℕ). Filled (part_from c.args.slot c.args.number k (length bytes) x) (block_at w c.in-Some.at)) c.part_of.ensures c.fill_at.ensures.filled in (
       store_more (block_at m) (block_at v) (block_at w) c.args.count c.args.slot c.args.number bytes k c.in-Some.at inv.0

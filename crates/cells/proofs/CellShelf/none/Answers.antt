@@ -3,5 +3,5 @@ use Rattle.cells.specs.Cells.{cell_at}
 use Rattle.cells.proofs.Clearings.{free_sound}
 use Rattle.cells.proofs.CellShelf.none.Goals as goal
 
-pub invariant-of-result : goal.invariant-of-result
-invariant-of-result c = (omega arith, (∣ free_sound (cell_at []) 0 (λ i l. absurd (omega arith)) ∣₁, tt))
+pub invariant_of-result : goal.invariant_of-result
+invariant_of-result c = record { fits = omega arith; sound = ∣ free_sound (cell_at []) 0 (λ i l. absurd (omega arith)) ∣₁ }

@@ -5,8 +5,8 @@ use Rattle.cells.proofs.Props.{sound_of}
 use Rattle.cells.proofs.Sounds.{held_used}
 use Rattle.cells.proofs.CellShelfShelf.free.Goals as goal
 
-pub overflow-sub-result : goal.overflow-sub-result
-overflow-sub-result c =
+pub overflow_sub-result : goal.overflow_sub-result
+overflow_sub-result c =
     let x = c.args.self.now in
     omega (arith, c.count_used.ensures, count_le (λ i. is_used (cell_at x.memory.now i)) x.count)
 

@@ -100,6 +100,6 @@ returns c =
     record {
       answer = subst P
           (sym (same_value _ (told_by xs) c.order_of-order.ensures c.stop_of-stop.ensures k.number_is k.count_is (id_part xs _ _ k.id_is) (body_part xs _ _ s)))
-          (told_encodes xs (λ i. let f = c.type-inv.datagram i in omega arith) p8);
+          (told_encodes xs (λ i. let f = c.type_inv.datagram i in omega arith) p8);
       one_packet = one_packet;
     }

@@ -43,8 +43,8 @@ unreachable-requires c =
     let U : Sending → Type 0 = λ s. Unadded s m was c.add.new.buffer c.in_default.field-0 (sending c.add.new.self.state) in
     add_never p lp m some (omega arith) was (omega arith) (subst U fresh c.in_default.ensures)
 
-pub overflow-mul-at : goal.overflow-mul-at
-overflow-mul-at c =
+pub overflow_mul-at : goal.overflow_mul-at
+overflow_mul-at c =
     let cut = c.value-cut.result in
     let p = plan_by cut c.args.ticket.id c.args.order in
     let lp : LawfulPlan p = record { lawful_cut = c.value-cut.ensures.lawful; id_size = search rules } in
@@ -58,8 +58,8 @@ overflow-mul-at c =
     let w = full_within p lp m some (omega arith) was (omega arith) c.add.new.buffer c.in-Ok.count (search rules) a in
     search rules
 
-pub slice-bounds-write_final-count : goal.slice-bounds-write_final-count
-slice-bounds-write_final-count c =
+pub slice_bounds-write_final-count : goal.slice_bounds-write_final-count
+slice_bounds-write_final-count c =
     let cut = c.value-cut.result in
     let p = plan_by cut c.args.ticket.id c.args.order in
     let lp : LawfulPlan p = record { lawful_cut = c.value-cut.ensures.lawful; id_size = search rules } in
@@ -73,8 +73,8 @@ slice-bounds-write_final-count c =
     let w = full_within p lp m some (omega arith) was (omega arith) c.add.new.buffer c.in-Ok.count (search rules) a in
     w
 
-pub slice-bounds-write_final-start : goal.slice-bounds-write_final-start
-slice-bounds-write_final-start c =
+pub slice_bounds-write_final-start : goal.slice_bounds-write_final-start
+slice_bounds-write_final-start c =
     let cut = c.value-cut.result in
     let p = plan_by cut c.args.ticket.id c.args.order in
     let lp : LawfulPlan p = record { lawful_cut = c.value-cut.ensures.lawful; id_size = search rules } in
@@ -105,8 +105,8 @@ unreachable-requires-in_default-write_final c =
     let U : Sending → Type 0 = λ s. Unended s left c.write_final.new.buffer c.in_default-write_final.field-0 in
     end_never p lp m some (omega arith) was (omega arith) c.add.new.buffer c.in-Ok.count (search rules) a (subst U c.close.ensures c.in_default-write_final.ensures)
 
-pub overflow-add-result : goal.overflow-add-result
-overflow-add-result c =
+pub overflow_add-result : goal.overflow_add-result
+overflow_add-result c =
     let cut = c.value-cut.result in
     let p = plan_by cut c.args.ticket.id c.args.order in
     let lp : LawfulPlan p = record { lawful_cut = c.value-cut.ensures.lawful; id_size = search rules } in

@@ -18,8 +18,8 @@ returns c =
     let was = c.args.buffer.now in
     let w = c.in-Ok.ensures in
     let b = bytes_one v in
-    let l : c.in-Ok.size ≡ length (bytes_of (v ∷ [])) = w.size-is ∙ sym (ap length b ∙ length_canonical v) in
+    let l : c.in-Ok.size ≡ length (bytes_of (v ∷ [])) = w.size_is ∙ sym (ap length b ∙ length_canonical v) in
     record {
-      size = w.size-is;
+      size = w.size_is;
       after = put_from was _ (bytes_of (v ∷ [])) c.args.at _ l (w.bytes_are ∙ ap (λ t. t ++ drop c.in-Ok.size (take (length was - c.args.at) (drop c.args.at was))) (sym b));
     }

@@ -73,8 +73,8 @@ put_run-requires c =
       fits = omega arith;
     }
 
-pub invariant-of-state-3 : goal.invariant-of-state-3
-invariant-of-state-3 c =
+pub invariant_of-state-3 : goal.invariant_of-state-3
+invariant_of-state-3 c =
     let st = c.args.self.now.state in
     let n = c.followed-count.result in
     let a = add-mul st.sent n st.cut in
