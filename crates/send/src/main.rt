@@ -3,7 +3,7 @@
 
 ghost use Rattle.std.specs.Prelude.{◌≤◌, IfOk, vec_len};
 
-use anyhow::anyhow;
+use anyhow::{Context, anyhow, bail};
 use packet::MAX_DATAGRAM;
 use records::walk::{Visitor, visit_all};
 use sender::ids::Issuer;
@@ -83,12 +83,12 @@ fn byte_order(word: &str) -> anyhow::Result<ByteOrder> {
     match word {
         "big" => Ok(ByteOrder::Big),
         "little" => Ok(ByteOrder::Little),
-        _ => Err(USAGE.into()),
+        _ => Err(anyhow!(USAGE)),
     }
 }
 
 fn body_length(word: &str) -> anyhow::Result<BodyLength> {
-    match BodyLength::new(word.parse::<usize>().ok().ok_or(USAGE)?) {
+    match BodyLength::new(word.parse::<usize>().ok().context(USAGE)?) {
         Ok(length) => Ok(length),
         Err(_) => Err(anyhow!("L refused 8: not a multiple of 8 from 16 to 1440")),
     }
@@ -97,14 +97,14 @@ fn body_length(word: &str) -> anyhow::Result<BodyLength> {
 fn run(rt: &HostRuntime) -> anyhow::Result<()> {
     let mut words = env::args(rt)?;
     let _program = words.next();
-    let node = words.next().ok_or(USAGE)?;
-    let length = words.next().ok_or(USAGE)?;
-    let order = words.next().ok_or(USAGE)?;
+    let node = words.next().context(USAGE)?;
+    let length = words.next().context(USAGE)?;
+    let order = words.next().context(USAGE)?;
     if words.next().is_some() {
-        return Err(USAGE.into());
+        bail!(USAGE);
     }
     let mut loads = Loads {
-        issuer: Issuer::new(node.as_str().parse::<u64>().ok().ok_or(USAGE)?),
+        issuer: Issuer::new(node.as_str().parse::<u64>().ok().context(USAGE)?),
         length: body_length(length.as_str())?,
         order: byte_order(order.as_str())?,
         packets: vec![in rt.alloc(); 0; ROOM]?,

@@ -207,14 +207,14 @@ fn packet_of_27_bytes(rt: HostRuntime) -> Result<(), Fail> {
     assert!(rt; packet.stop);
     assert_eq!(rt; packet.number, 0);
     assert_eq!(rt; packet.count, 0);
-    assert!(rt; packet.id == b"A");
-    assert!(rt; packet.body == b"xyz");
+    assert!(rt; packet.id == b"A".as_slice());
+    assert!(rt; packet.body == b"xyz".as_slice());
     let mut padded = WORKED;
     padded[22] = 7;
     assert!(rt; Packet::read(&padded).is_ok(), "padding is not read");
     let mut back = [9; 29];
     assert_eq!(rt; packet.write(&mut back).ok().ok_or("refused")?, 27);
-    assert!(rt; &back[0..27] == &WORKED);
+    assert!(rt; &back[0..27] == WORKED.as_slice());
     assert!(rt;
         back[27] == 9 && back[28] == 9,
         "the rest of the buffer stays"

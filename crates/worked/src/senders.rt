@@ -103,7 +103,7 @@ fn check_packets(
             matches!(packet.order, ByteOrder::Big),
             matches!(order, ByteOrder::Big)
         );
-        assert!(rt; packet.id == [0, 0, 0, 0, 0, 0, 0, 7, 0, 0, 0, 0]);
+        assert!(rt; packet.id == [0, 0, 0, 0, 0, 0, 0, 7, 0, 0, 0, 0].as_slice());
         assert!(rt; rest.starts_with(packet.body));
         rest = rest.get(packet.body.len()..).ok_or("body too long")?;
     }

@@ -16,10 +16,10 @@ use Rattle.receiver.proofs.receiver.Receiver.hear.Goals as goal
 
 pub returns-in_err-packet : goal.returns-in_err-packet
 returns-in_err-packet g c =
-    let p = err_from_is_err_and c.from-residual.result c.from-residual.ensures.1 in
+    let p = err_from_is_err_and c.from_residual.result c.from_residual.ensures.1 in
     let s : Seen = seen g.S.Shelf c.args.self.now in
     let bad = c.in_err-packet.ensures.answer in
-    let r = arrival_reply c.from-residual.result in
+    let r = arrival_reply c.from_residual.result in
     let is = ap arrival_reply (p.1 ∙ ap Err p.2) in
     record {
       same_terms = refl;
