@@ -2,7 +2,7 @@
 #![tactic(auto)]
 
 #[cfg(test)]
-mod blocks;
+mod lawful_blocks;
 #[cfg(test)]
 mod packets;
 #[cfg(test)]
