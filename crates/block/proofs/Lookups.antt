@@ -1,5 +1,5 @@
 -- A byte at a time by a table: the check takes it in as it takes in its bits.
-use Rattle.std.proofs.Common.{◌≡◌, ℕ, zero, suc, ◌+◌, ◌-◌, ◌*◌, ◌/◌, ◌%◌, ◌<◌, ◌≤◌, Bool, true, false, cond, T, eqb, leb, List, get_or, sym, refl, ap, ◌∙◌, subst, inl, inr, add-zero, arith, eqb→eq}
+use Rattle.std.proofs.Common.{◌≡◌, ℕ, zero, suc, ◌+◌, ◌*◌, ◌/◌, ◌%◌, ◌<◌, ◌≤◌, Bool, true, false, cond, T, eqb, leb, List, get_or, sym, refl, ap, ◌∙◌, subst, inl, inr, add-zero, arith, eqb→eq}
 use lib.Bits.{bit_xor, xor_assoc, xor_comm, xor_block, xor_shifted, xor_mod, xor_shr, xor_zero_l, xor_zero_r, xor_lt}
 use Rattle.std.proofs.lemmas.Bool.{cases_eq, leb-true, leb-false, le-leb, lt-leb, cases_Bool}
 use Rattle.block.specs.Check.{shifted, shifts, taken_in, TableRule}

@@ -125,7 +125,7 @@ unfoldable pub Counted : List FragmentValue → ℕ → ℕ → Type 0
 Counted ps zero r = r ≡ 0
 Counted ps (suc j) r = (Heard ps j × ((k : ℕ) × Counted ps j k × (r ≡ k + 1))) ⊎ ((Heard ps j → ⊥) × Counted ps j r)
 
--- every number below r was heard, and r was not: if all numbers were heard, r is max-packets
+-- every number below r was heard, and r was not: if all numbers were heard, r is max_packets
 pub record LowestUnheard (ps : List FragmentValue) (r : ℕ) : Type 0 where
   pub most : r ≤ max_packets
   pub below : (n : ℕ) → n < r → Heard ps n

@@ -1,9 +1,9 @@
 -- A fetch hands out a message just where the state is whole, once a stay.
-use Rattle.std.proofs.Common.{◌≡◌, ℕ, ◌≤◌, min, Bool, true, false, cond, List, ◌∷◌, length, sym, refl, ap, ◌∙◌, subst, inl, inr, arith}
+use Rattle.std.proofs.Common.{◌≡◌, ℕ, ◌≤◌, min, Bool, true, cond, List, length, sym, refl, ap, ◌∙◌, subst, inl, inr, arith}
 use Rattle.std.proofs.lemmas.Bool.{cases_Bool}
-use Rattle.history.specs.Calls.{Call, State, Reply, Said, History, arrives, fetches, ticks, asks, audible, hands_over, delivered, told, refused, refused_by, refusals, most_refusals, is_none, is_gathering, is_whole, is_spoiled, is_fetched}
+use Rattle.history.specs.Calls.{Call, State, Reply, History, arrives, fetches, ticks, asks, audible, hands_over, delivered, told, refused_by, refusals, most_refusals, is_whole}
 use Rattle.history.specs.Stays.{Terms, Stay, Standing, Stands, After, outside, inside, more, later, fetched_now}
-use Rattle.history.specs.Answers.{AnswerDue, FetchDue, StateDue, FetchedIfWhole, FetchedOnce, FetchAnswer, FetchAnswerAt, StayState, StateOfId, gathers, spoilt, fetched_before, too_short, hands_out, looks_gathering, looks_whole, looks_spoiled, looks_fetched}
+use Rattle.history.specs.Answers.{FetchDue, FetchedIfWhole, FetchedOnce, FetchAnswerAt, StayState, StateOfId, gathers, spoilt, fetched_before, too_short, hands_out, looks_gathering, looks_whole, looks_spoiled, looks_fetched}
 use Rattle.history.proofs.Standings.{stands_one, same_stay, out_in}
 
 no_delivery : (bytes : List ℕ) (n : ℕ) → delivered bytes ≡ refused_by n → ⊥

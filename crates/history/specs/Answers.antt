@@ -1,5 +1,5 @@
 -- The answer that is due to a call after a history.
-use Rattle.std.specs.Prelude.{◌≡◌, ℕ, ◌-◌, ◌<◌, ◌≤◌, min, Bool, true, false, ◌⊎◌, List, [], ◌∷◌, length}
+use Rattle.std.specs.Prelude.{◌≡◌, ℕ, ◌-◌, ◌<◌, ◌≤◌, min, true, false, ◌⊎◌, List, [], ◌∷◌, length}
 use Rattle.wire.specs.Limits.{max_packets, max_slots}
 use Rattle.wire.specs.Numbers.{Octets}
 use Rattle.wire.specs.Refusals.{fault_number}

@@ -1,12 +1,12 @@
 -- Two histories of the same arrivals, each in an order of its own.
-use Rattle.std.specs.Prelude.{◌≡◌, ℕ, ◌*◌, ◌<◌, ◌≤◌, Bool, true, false, List, [], ◌∷◌, length, ◌≢◌}
+use Rattle.std.specs.Prelude.{◌≡◌, ℕ, ◌*◌, ◌<◌, ◌≤◌, false, List, [], ◌∷◌, length, ◌≢◌}
 use Rattle.std.specs.List.{ContainsAt as Has}
 use Rattle.std.specs.List.Sorted.{IsPermutation}
 use Rattle.wire.specs.Limits.{max_packets}
 use Rattle.packet.specs.Packets.{PacketValue}
 use Rattle.sender.specs.Packets.{Plan, LawfulPlan, packets_of}
 use Rattle.collection.specs.Fragments.{FragmentValue, In, Whole}
-use Rattle.history.specs.Calls.{Call, State, Reply, Said, History, arrives, fetches, ticks, asks, told, delivered, refused_by, calls}
+use Rattle.history.specs.Calls.{Call, State, Reply, History, arrives, fetches, ticks, asks, told, delivered, refused_by, calls}
 use Rattle.history.specs.Stays.{Terms, Stay, Standing, Broken, Stands, inside, fragment_of}
 use Rattle.history.specs.Answers.{AnswerDue, AllDue}
 

@@ -3,7 +3,7 @@ use Rattle.std.specs.Prelude.{◌≡◌, ℕ, ◌+◌, ◌<◌, ◌≤◌, Bool,
 use Rattle.shelf.specs.Units.{cost}
 use Rattle.packet.specs.Packets.{PacketValue, Encodes}
 use Rattle.collection.specs.Fragments.{FragmentValue, In, Contradict, Calm, Whole}
-use Rattle.history.specs.Calls.{Call, Reply, Said, History, arrives, fetches, ticks, asks, accepted, audible, hands_over}
+use Rattle.history.specs.Calls.{Call, Reply, History, arrives, fetches, ticks, asks, accepted, audible, hands_over}
 
 -- what holds of a receiver for good: its patience, and its shelf's unit size and capacity
 pub record Terms : Type 0 where

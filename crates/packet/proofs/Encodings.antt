@@ -1,16 +1,16 @@
 -- A datagram without a flaw is that of the packet that its fields tell, and of no other.
-use Rattle.std.proofs.Common.{◌≡◌, ℕ, zero, suc, ◌+◌, ◌-◌, ◌<◌, ◌≤◌, List, [], ◌∷◌, ◌++◌, length, get_or, take, drop, Result, sym, refl, ap, ◌∙◌, subst, arith, lit<, lit≤, MatchResult}
+use Rattle.std.proofs.Common.{◌≡◌, ℕ, zero, suc, ◌+◌, ◌-◌, ◌<◌, ◌≤◌, List, ◌∷◌, ◌++◌, length, get_or, take, drop, Result, sym, refl, ap, ◌∙◌, subst, arith, lit<, lit≤, MatchResult}
 use Rattle.std.proofs.lemmas.Result.{MatchResult-weaker}
-use Rattle.std.proofs.lemmas.List.{append_assoc, length-append, length-drop, length-take-le, take_at, drop_at, drop-drop, drop_more, take-append-drop, get_or-take, get_or-drop}
+use Rattle.std.proofs.lemmas.List.{append_assoc, length-append, length-drop, length-take-le, take_at, drop_at, drop-drop, drop_more, take-append-drop}
 use Rattle.wire.specs.declared.refusal.Refusal.{Refusal}
-use Rattle.wire.specs.Numbers.{Octets, digits, number_of}
+use Rattle.wire.specs.Numbers.{Octets, digits}
 use Rattle.wire.proofs.Fronts.{split_at}
 use Rattle.wire.proofs.Numbers.{digits_number, octets_stretch}
 use Rattle.packet.specs.Limits.{magic_bytes}
 use Rattle.packet.specs.declared.Packet.{Packet}
-use Rattle.packet.specs.Packets.{PacketValue, shown, InRange, Encodes, Numbered, body_start, padding_length, size_of, datagram_of, header_of, flags_of}
+use Rattle.packet.specs.Packets.{PacketValue, shown, Encodes, body_start, padding_length, datagram_of, flags_of}
 use Rattle.packet.specs.Datagrams.{Reading, order_of, stop_of, order_in, stop_in, field_in, body_length_in, number_in, count_in, id_length_in}
-use Rattle.packet.proofs.Headers.{Laid, Told, laid, told}
+use Rattle.packet.proofs.Headers.{Laid, Told, laid}
 use Rattle.packet.proofs.Flaws.{Passed, in_range_tests, told_sized}
 
 -- the packet that the fields tell

@@ -7,7 +7,7 @@ use Rattle.wire.specs.Refusals.{fault_number}
 use Rattle.packet.specs.Limits.{magic_bytes, version_byte, header_length, max_datagram, max_id}
 use Rattle.packet.specs.Packets.{PacketValue, InRange, Encodes, Numbered, body_start, padding_length, size_of, datagram_of}
 use Rattle.packet.specs.Datagrams.{Flaw, too_short, too_long, other_magic, other_version, upper_flags, no_id, long_id, id_past_end, no_body, other_body, misnumbered, PacketRefusal, Refused, stop_in, body_length_in, number_in, count_in, id_length_in}
-use Rattle.packet.proofs.Headers.{Laid, Told, laid, told, length_datagram}
+use Rattle.packet.proofs.Headers.{Told, laid, told, length_datagram}
 
 -- what the test of each number asks of a datagram
 abbrev pub Test : List ℕ → ℕ → Type 0

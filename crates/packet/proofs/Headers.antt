@@ -1,12 +1,12 @@
 -- What the fields of a packet's datagram are.
-use Rattle.std.proofs.Common.{◌≡◌, ℕ, ◌+◌, ◌-◌, ◌^◌, ◌<◌, ◌≤◌, Bool, true, false, eqb, List, [], ◌∷◌, ◌++◌, length, get_or, take, drop, sym, refl, ap, ◌∙◌, subst, arith}
+use Rattle.std.proofs.Common.{◌≡◌, ℕ, ◌+◌, ◌^◌, ◌<◌, Bool, true, false, List, ◌++◌, length, get_or, take, drop, sym, refl, ap, ◌∙◌, arith}
 use Rattle.std.proofs.lemmas.List.{append_assoc, length-append, take_at, drop_at, drop-drop}
 use Rattle.wire.specs.declared.order.ByteOrder.{ByteOrder}
 use Rattle.wire.specs.declared.order.ByteOrder.TheVariants.{Big, Little}
 use Rattle.wire.specs.Numbers.{digits, number_of}
 use Rattle.wire.proofs.Numbers.{length_digits, number_digits}
-use Rattle.packet.specs.Limits.{magic_bytes, version_byte, max_datagram}
-use Rattle.packet.specs.Packets.{PacketValue, flags_of, header_of, datagram_of, body_start, padding_length, size_of}
+use Rattle.packet.specs.Limits.{magic_bytes, version_byte}
+use Rattle.packet.specs.Packets.{PacketValue, flags_of, header_of, datagram_of, padding_length, size_of}
 use Rattle.packet.specs.Datagrams.{order_of, stop_of, order_in, stop_in, field_in, body_length_in, number_in, count_in, id_length_in}
 
 order_back : (o : ByteOrder) (s : Bool) → order_of (flags_of o s) ≡ o

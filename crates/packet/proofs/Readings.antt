@@ -1,5 +1,5 @@
 -- From what the reader has tested to what it answers.
-use Rattle.std.proofs.Common.{◌≡◌, ℕ, ◌+◌, ◌-◌, ◌<◌, ◌≤◌, Bool, List, [], ◌∷◌, length, get_or, take, drop, sym, refl, ap, ◌∙◌, subst, arith}
+use Rattle.std.proofs.Common.{◌≡◌, ℕ, ◌+◌, ◌-◌, ◌<◌, ◌≤◌, Bool, List, [], ◌∷◌, length, get_or, take, drop, sym, ap, ◌∙◌, subst, arith}
 use Rattle.std.proofs.lemmas.List.{take_rest, drop-drop}
 use Rattle.wire.specs.declared.order.ByteOrder.{ByteOrder}
 use Rattle.wire.specs.declared.refusal.Fault.{Fault}
@@ -13,7 +13,6 @@ use Rattle.packet.specs.Packets.{PacketValue, Encodes, Numbered}
 use Rattle.packet.specs.Fields.{FieldsIn}
 use Rattle.packet.specs.Datagrams.{Flaw, PacketRefusal, Refused, order_in, body_length_in, number_in, count_in, id_length_in}
 use Rattle.packet.proofs.Flaws.{Passed, pass, pass_none, refused, flawed_none}
-use Rattle.packet.proofs.Encodings.{one_packet}
 
 -- a refusal is of bytes that are those of no packet
 pub refusing : {f : Fault} {place : ℕ} {e : Refusal} (xs : List ℕ) → PacketRefusal f place e → Passed xs (fault_number f) → Flaw xs (fault_number f) place → Refused xs e × ((v : PacketValue) → Encodes v xs → ⊥)

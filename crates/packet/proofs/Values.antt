@@ -1,5 +1,5 @@
 -- The flaws that the datagram of a value would have.
-use Rattle.std.proofs.Common.{◌≡◌, ℕ, ◌+◌, ◌<◌, ◌≤◌, length, sym, ap, ◌∙◌, arith}
+use Rattle.std.proofs.Common.{◌≡◌, ℕ, ◌<◌, length, ◌∙◌, arith}
 use Rattle.std.proofs.lemmas.List.{length-replicate}
 use Rattle.packet.specs.Limits.{max_datagram}
 use Rattle.packet.specs.Packets.{PacketValue, Numbered, padding_length, size_of, zeros_of, canonical}

@@ -1,16 +1,11 @@
 -- What the parts that the writer puts one after the other come to.
-use Rattle.std.proofs.Common.{◌≡◌, ℕ, ◌+◌, ◌-◌, ◌≤◌, List, [], ◌∷◌, ◌++◌, length, take, drop, replicate, Result, sym, refl, ap, ◌∙◌, subst, arith, MatchResult}
+use Rattle.std.proofs.Common.{◌≡◌, ℕ, ◌+◌, ◌-◌, ◌≤◌, List, [], ◌∷◌, ◌++◌, length, take, drop, replicate, sym, refl, ap, ◌∙◌, arith}
 use Rattle.std.proofs.lemmas.List.{append_assoc, length-append, take_at, take-replicate}
-use Rattle.std.proofs.lemmas.Result.{MatchResult-weaker}
-use Rattle.wire.specs.declared.refusal.Refusal.{Refusal}
 use Rattle.wire.specs.Numbers.{digits}
 use Rattle.wire.proofs.Fronts.{elements, all_elements}
 use Rattle.wire.proofs.Numbers.{length_digits}
-use Rattle.packet.specs.declared.Packet.{Packet}
-use Rattle.packet.specs.Packets.{PacketValue, shown, InRange, Encodes, flags_of, header_of, datagram_of, canonical, zeros_of, body_start, padding_length, size_of}
-use Rattle.packet.specs.Datagrams.{Reading}
+use Rattle.packet.specs.Packets.{PacketValue, InRange, Encodes, flags_of, header_of, canonical, zeros_of, size_of}
 use Rattle.packet.specs.Writing.{Written}
-use Rattle.packet.proofs.Headers.{length_header}
 use Rattle.packet.proofs.Encodings.{reads_back}
 use Rattle.packet.proofs.Buffers.{Begun, begun_more}
 use Rattle.packet.proofs.Values.{padded, length_canonical}

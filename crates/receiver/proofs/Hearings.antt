@@ -1,24 +1,20 @@
 -- A packet in a slot.
-use Rattle.std.proofs.Common.{◌≡◌, ℕ, ◌+◌, ◌<◌, ◌≤◌, Bool, true, false, cond, ◌⊎◌, List, [], ◌∷◌, length, sym, refl, ap, ◌∙◌, subst, inl, inr, arith}
+use Rattle.std.proofs.Common.{◌≡◌, ℕ, ◌+◌, ◌<◌, ◌≤◌, Bool, true, false, cond, List, [], ◌∷◌, length, sym, refl, ap, ◌∙◌, subst, inl, inr, arith}
 use Rattle.std.proofs.lemmas.Bool.{cases_Bool, true≢false, false≢true}
-use Rattle.wire.specs.Limits.{max_packets}
-use Rattle.wire.specs.declared.refusal.Layer.{Layer}
 use Rattle.wire.specs.declared.refusal.Refusal.{Refusal}
-use Rattle.wire.specs.declared.refusal.Layer.TheVariants as layer
 use Rattle.shelf.specs.Units.{cost}
-use Rattle.numbers.specs.Marks.{has}
 use Rattle.numbers.proofs.Digits.{has_not}
-use Rattle.collection.specs.Fragments.{FragmentValue, Ranged, Heard, Against, Calm, Whole}
+use Rattle.collection.specs.Fragments.{FragmentValue, Ranged, Heard}
 use Rattle.collection.specs.Kept.{Open, Related, Taken, PiecePut}
 use Rattle.collection.specs.declared.summary.Summary.{Summary}
 use Rattle.collection.specs.declared.summary.Relation.TheVariants.{New, Repeated, Contradicts}
 use Rattle.collection.proofs.Pinning.{calm_more}
-use Rattle.history.specs.Calls.{Reply, refused, refused_by, audible, repeated, kept, completed}
+use Rattle.history.specs.Calls.{Reply, refused_by, audible, repeated, kept, completed}
 use Rattle.history.specs.Stays.{Stay, numbered, weight, more}
 use Rattle.history.specs.Answers.{PacketAnswer, after_fetch, after_spoil, contradicts, again, no_room, completes, goes_on}
 use Rattle.history.proofs.Numbers.{in_numbered, numbered_in}
 use Rattle.receiver.specs.declared.slot.Slot.{Slot}
-use Rattle.receiver.specs.declared.slot.Phase.TheVariants.{Free, Sound, Spoiled, Fetched}
+use Rattle.receiver.specs.declared.slot.Phase.TheVariants.{Sound, Spoiled, Fetched}
 use Rattle.receiver.specs.declared.answers.Outcome.{Outcome}
 use Rattle.receiver.specs.declared.answers.Outcome.TheVariants as outcome
 use Rattle.receiver.specs.Slots.{Reflects, Mirrors, Bare, row, used}

@@ -1,5 +1,5 @@
 -- A new receiver.
-use Rattle.std.proofs.Common.{◌≡◌, ℕ, ◌<◌, min, true, false, List, [], length, sym, refl, ap, ◌∙◌, inl, arith}
+use Rattle.std.proofs.Common.{◌≡◌, ℕ, ◌<◌, false, length, sym, refl, ◌∙◌, inl}
 use Rattle.std.proofs.lemmas.Bool.{true≢false}
 use Rattle.wire.specs.Limits.{max_slots}
 use Rattle.shelf.specs.Units.{Tidy}

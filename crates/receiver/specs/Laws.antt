@@ -1,10 +1,10 @@
 -- The law of a receiver: what holds of every run of calls.
-use Rattle.std.specs.Prelude.{◌≡◌, ℕ, ◌+◌, ◌<◌, Bool, true, false, ◌⊎◌, List, [], ◌∷◌, ◌≢◌}
+use Rattle.std.specs.Prelude.{◌≡◌, ℕ, ◌+◌, ◌<◌, true, false, ◌⊎◌, List, [], ◌∷◌, ◌≢◌}
 use Rattle.wire.specs.Limits.{max_slots}
 use Rattle.shelf.specs.Pieces.{Pieces}
 use Rattle.shelf.specs.Units.{free_units}
 use Rattle.collection.specs.Fragments.{FragmentValue, In, Heard, Calm}
-use Rattle.history.specs.Calls.{Call, State, Reply, Said, History, fetches, asks, told, none_yet}
+use Rattle.history.specs.Calls.{Call, State, Reply, History, fetches, asks, told, none_yet}
 use Rattle.history.specs.Stays.{Terms, Stay, Broken, Stays, Placed, Among, units_of}
 use Rattle.history.specs.Answers.{AnswerDue, AllDue, BytesCall, BytesHistory, FetchedIfWhole, FetchedOnce}
 use Rattle.history.specs.Orders.{Alike, Agree}

@@ -1,11 +1,11 @@
 -- Tables: a receiver's slots and shelf as a history leaves them.
-use Rattle.std.specs.Prelude.{◌≡◌, ℕ, ◌+◌, ◌<◌, min, Bool, true, false, cond, List, ◌∷◌, length}
+use Rattle.std.specs.Prelude.{◌≡◌, ℕ, ◌<◌, min, List, ◌∷◌, length}
 use Rattle.std.specs.Borrow.{GName}
 use Rattle.wire.specs.Limits.{max_slots}
 use Rattle.shelf.specs.Pieces.{Pieces}
 use Rattle.shelf.specs.Units.{Tidy}
 use Rattle.shelf.specs.declared.Shelf.{Ghosts}
-use Rattle.history.specs.Calls.{Call, Reply, History, accepted, refusals, most_refusals}
+use Rattle.history.specs.Calls.{Call, Reply, History, refusals, most_refusals}
 use Rattle.history.specs.Stays.{Terms, Stands, outside}
 use Rattle.history.specs.Answers.{AnswerDue}
 use Rattle.receiver.specs.declared.slot.Slot.{Slot}

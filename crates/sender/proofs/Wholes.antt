@@ -1,12 +1,12 @@
 -- All packets of a message that is there as a whole.
-use Rattle.std.proofs.Common.{◌≡◌, ℕ, ◌+◌, ◌-◌, ◌*◌, ◌/◌, ◌<◌, ◌≤◌, List, [], ◌∷◌, ◌++◌, length, take, drop, sym, refl, ap, ◌∙◌, subst, mul-add, arith}
+use Rattle.std.proofs.Common.{◌≡◌, ℕ, ◌+◌, ◌-◌, ◌*◌, ◌<◌, ◌≤◌, List, [], ◌∷◌, ◌++◌, length, take, drop, sym, refl, ap, ◌∙◌, mul-add, arith}
 use native.Mathlib.Nat.{zero-div}
 use Rattle.std.proofs.lemmas.List.FromFn.{map-range_with_len_more}
 use Rattle.std.proofs.lemmas.List.{append-nil, append_assoc, length-append, length-drop, take_all, take_at, take_rest, drop_at, drop-drop}
 use borrow.Rule.Slice.PartMut.{put_mid}
 use Rattle.packet.specs.Packets.{canonical, size_of}
 use Rattle.packet.proofs.Values.{length_canonical}
-use Rattle.sender.specs.Packets.{Plan, LawfulPlan, packet_at, packets_from, packets_of, bytes_of}
+use Rattle.sender.specs.Packets.{Plan, LawfulPlan, packet_at, packets_from, bytes_of}
 use Rattle.wire.specs.declared.refusal.Refusal.{Refusal}
 use Rattle.sender.specs.Sending.{Sending, new_sending, Added, Unadded, long_message, short_buffer, Ended, Unended, no_message, short_end, sure, newly, full_size, final_packet}
 use Rattle.sender.specs.Runs.{whole, send_none, send_more}

@@ -1,4 +1,4 @@
-use Rattle.std.proofs.Common.{◌≡◌, ℕ, ◌+◌, ◌-◌, List, ◌++◌, length, take, drop, sym, ap, ◌∙◌, subst, arith}
+use Rattle.std.proofs.Common.{◌≡◌, ℕ, ◌+◌, List, ◌++◌, length, take, drop, sym, ap, ◌∙◌, subst, arith}
 use Rattle.packet.specs.Packets.{shown, padding_length, zeros_of, canonical, size_of}
 use Rattle.packet.proofs.Headers.{length_header}
 use Rattle.packet.proofs.Values.{padded}

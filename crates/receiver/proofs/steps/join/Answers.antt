@@ -1,4 +1,4 @@
-use Rattle.std.proofs.Common.{◌≡◌, ℕ, suc, ◌+◌, ◌-◌, ◌<◌, ◌≤◌, List, ◌++◌, length, drop, sym, refl, ap, ◌∙◌, add-one, arith, length-append, rules}
+use Rattle.std.proofs.Common.{◌≡◌, ℕ, suc, ◌+◌, ◌≤◌, List, ◌++◌, length, drop, sym, refl, ap, ◌∙◌, add-one, arith, length-append, rules}
 use Rattle.collection.specs.Fragments.{joined}
 use Rattle.receiver.proofs.Joins.{joined_none, joined_more, joined_le, join_count, join_more, join_ends}
 use Rattle.receiver.proofs.steps.join.Goals as goal

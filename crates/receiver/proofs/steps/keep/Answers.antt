@@ -1,9 +1,8 @@
-use Rattle.std.proofs.Common.{◌≡◌, ℕ, ◌<◌, ◌≤◌, Bool, true, false, cond, List, [], ◌∷◌, length, sym, refl, ap, ◌∙◌, subst, arith}
+use Rattle.std.proofs.Common.{◌≡◌, ℕ, ◌∷◌, sym, refl, ◌∙◌}
 use Rattle.shelf.specs.Units.{free_units}
 use Rattle.shelf.proofs.Takings.{takes_then}
 use Rattle.collection.specs.Kept.{PiecePut, shown}
 use Rattle.collection.proofs.Taking.{fragment_ranged}
-use Rattle.receiver.specs.Parts.{OnlyAt, held}
 use Rattle.receiver.proofs.Puttings.{put_not, put_here, put_other_slot, put_other_number, too_few}
 use Rattle.receiver.proofs.Hearings.{refused_so, unheard_bare, new_heeds, full_heeds}
 use Rattle.receiver.proofs.steps.keep.Goals as goal

@@ -1,7 +1,6 @@
-use Rattle.std.proofs.Common.{◌≡◌, ℕ, ◌<◌, List, sym, refl, ◌∙◌, subst}
+use Rattle.std.proofs.Common.{refl}
 use Rattle.shelf.specs.Units.{free_units}
-use Rattle.collection.specs.Kept.{Related, shown}
-use Rattle.collection.specs.declared.summary.Relation.{Relation}
+use Rattle.collection.specs.Kept.{shown}
 use Rattle.collection.proofs.Taking.{fragment_ranged}
 use Rattle.receiver.proofs.Slots.{sound_else, cleared, cleared_not}
 use Rattle.receiver.proofs.Hearings.{refused_so, again_heeds, clash_heeds}

@@ -1,6 +1,5 @@
-use Rattle.std.proofs.Common.{◌≡◌, Bool, Decides, sym, refl, ◌∙◌, subst}
+use Rattle.std.proofs.Common.{sym, ◌∙◌}
 use Rattle.std.proofs.lemmas.Bool.{false≢true}
-use Rattle.collection.specs.Fragments.{Whole}
 use Rattle.receiver.specs.declared.slot.Phase.TheVariants.{Sound}
 use Rattle.receiver.proofs.Slots.{in_phase, not_sound, not_waiting, extent_decides}
 use Rattle.receiver.proofs.steps.waits.Goals as goal

@@ -1,11 +1,11 @@
-use Rattle.std.proofs.Common.{◌≡◌, ℕ, ◌+◌, ◌-◌, ◌*◌, ◌<◌, ◌≤◌, length, take, drop, sym, refl, ap, ◌∙◌, subst, arith, rules}
+use Rattle.std.proofs.Common.{◌≡◌, ℕ, ◌+◌, ◌-◌, ◌*◌, ◌<◌, length, take, drop, sym, refl, ap, ◌∙◌, subst, arith, rules}
 use borrow.Rule.Slice.PartMut.{put_mid}
 use Rattle.std.proofs.lemmas.List.{nil_from_length}
-use Rattle.sender.specs.Packets.{Plan, LawfulPlan, plan_by}
-use Rattle.sender.specs.Sending.{Sending, new_sending, Added, Unadded, Ended, Unended, sure, full_size}
+use Rattle.sender.specs.Packets.{LawfulPlan, plan_by}
+use Rattle.sender.specs.Sending.{Sending, new_sending, Added, Unadded, Ended, Unended, full_size}
 use Rattle.sender.specs.States.{sending}
 use Rattle.sender.specs.Messages.{too_long, no_byte, too_short, MessageWritten, MessageUnwritten}
-use Rattle.sender.proofs.Wholes.{message_size, add_never, full_within, end_never, last_size, last_within, whole_written}
+use Rattle.sender.proofs.Wholes.{message_size, add_never, full_within, end_never, last_within, whole_written}
 use Rattle.sender.proofs.message.write_message.Goals as goal
 
 pub returns-then-message-cut : goal.returns-then-message-cut

@@ -1,4 +1,4 @@
-use Rattle.std.proofs.Common.{◌≡◌, ℕ, ◌+◌, min, cond, sym, refl, ap, ◌∙◌, subst}
+use Rattle.std.proofs.Common.{ℕ, ◌+◌, min, cond, ap, ◌∙◌}
 use Rattle.history.specs.Calls.{accepted, most_refusals}
 use Rattle.receiver.specs.Replies.{arrival_reply}
 use Rattle.receiver.proofs.receiver.Receiver.arrive.Goals as goal

@@ -1,9 +1,8 @@
-use Rattle.std.proofs.Common.{◌≡◌, ℕ, ◌<◌, ◌≤◌, Bool, true, false, List, ◌++◌, length, take, drop, set, sym, refl, ap, ◌∙◌, subst, inl, inr, arith}
+use Rattle.std.proofs.Common.{◌≡◌, ℕ, ◌≤◌, List, ◌++◌, length, take, drop, sym, refl, ap, ◌∙◌, subst, inl, inr, arith}
 use lib.Seq.{take-append_seam}
-use Rattle.wire.specs.declared.refusal.Refusal.{Refusal}
 use Rattle.shelf.specs.Units.{Tidy}
 use Rattle.collection.specs.Fragments.{joined}
-use Rattle.history.specs.Calls.{Reply, History, delivered, refused_by, hands_over}
+use Rattle.history.specs.Calls.{History, delivered}
 use Rattle.receiver.specs.declared.slot.Phase.TheVariants.{Free, Sound, Spoiled, Fetched}
 use Rattle.receiver.specs.Slots.{at, used_in}
 use Rattle.receiver.specs.Tables.{Seen, Explains, seen}

@@ -1,12 +1,10 @@
-use Rattle.std.proofs.Common.{◌≡◌, ℕ, ◌<◌, List, Err, sym, refl, ap, ◌∙◌, subst, arith}
+use Rattle.std.proofs.Common.{ℕ, Err, sym, refl, ap, ◌∙◌, subst}
 use Rattle.std.proofs.lemmas.Result.{err_from_is_err_and}
-use Rattle.wire.specs.declared.refusal.Refusal.{Refusal}
 use Rattle.shelf.specs.Units.{Tidy}
 use Rattle.packet.specs.Packets.{shown}
 use Rattle.collection.specs.Fragments.{FragmentValue}
 use Rattle.collection.specs.Kept.{shown as fragment-shown}
 use Rattle.history.specs.Stays.{Carries, fragment_of}
-use Rattle.receiver.specs.declared.answers.Outcome.{Outcome}
 use Rattle.receiver.specs.Replies.{arrival_reply}
 use Rattle.receiver.specs.Tables.{Seen, seen}
 use Rattle.receiver.proofs.Hearings.{refused_so}

@@ -1,8 +1,7 @@
-use Rattle.std.proofs.Common.{◌≡◌, ℕ, ◌+◌, ◌<◌, true, false, List, [], replicate, sym, refl, ap, ◌∙◌, arith, rules, below_more}
+use Rattle.std.proofs.Common.{◌≡◌, ℕ, ◌<◌, false, replicate, refl, ap, ◌∙◌, arith, rules, below_more}
 use lib.ListN.{get_or-replicate}
 use Rattle.wire.specs.Limits.{max_slots}
 use Rattle.receiver.specs.Slots.{Bare, used, at, no_slot}
-use Rattle.receiver.specs.Tables.{Seen, seen}
 use Rattle.receiver.proofs.Slots.{cleared, cleared_not}
 use Rattle.receiver.proofs.Changes.{lent_as}
 use Rattle.receiver.proofs.Makings.{nothing_yet}

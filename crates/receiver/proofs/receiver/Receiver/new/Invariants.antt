@@ -1,4 +1,4 @@
-use Rattle.std.proofs.Common.{◌≡◌, ℕ, ◌<◌}
+use Rattle.std.proofs.Common.{ℕ, ◌<◌}
 use Rattle.receiver.specs.Slots.{Bare}
 use Rattle.receiver.specs.Parts.{SameShelf, held}
 use Rattle.receiver.proofs.receiver.Receiver.new.Given as goal
