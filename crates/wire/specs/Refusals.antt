@@ -1,6 +1,8 @@
--- The number of each fault.
-use Rattle.std.specs.Prelude.{ℕ}
+-- The number of each fault, and what a refusal says.
+use Rattle.std.specs.Prelude.{◌≡◌, ℕ}
 use Rattle.wire.specs.declared.refusal.Fault.{Fault}
+use Rattle.wire.specs.declared.refusal.Layer.{Layer}
+use Rattle.wire.specs.declared.refusal.Refusal.{Refusal}
 use Rattle.wire.specs.declared.refusal.Fault.TheVariants.{DatagramLength, Magic, Version, Flags, IdLength, BodyLength, Numbering, PortionLength, MessageLength, BufferLength, EmptyMessage, UnlawfulBlock, SerialsSpent, SlotsTaken, ShelfFull, Contradiction, Spoiled, Fetched, NoSlot, Gathering, PastEnd, Text, Address, Port, Encapsulation, Excess}
 
 abbrev pub fault_number : Fault → ℕ
@@ -30,3 +32,9 @@ fault_number Address = 32
 fault_number Port = 33
 fault_number Encapsulation = 34
 fault_number Excess = 35
+
+-- the layer refuses, by the fault of this number, at this place
+pub record RefusedBy (layer : Layer) (number place : ℕ) (e : Refusal) : Type 0 where
+  pub number_is : fault_number e.fault ≡ number
+  pub place_is : e.place ≡ place
+  pub by_layer : e.layer ≡ layer

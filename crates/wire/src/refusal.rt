@@ -1,10 +1,13 @@
 // The one form of every refusal of the link.
 ghost use Rattle.std.specs.Prelude.{◌≡◌};
-ghost use Rattle.wire.specs.Refusals.{fault_number};
+ghost use Rattle.wire.specs.Refusals.{fault_number, RefusedBy};
+
+use std::error::Error;
+use std::fmt;
 
 /// Why something is refused. The value of a case is the number that users see;
 /// `docs/REFUSALS.md` has the exact condition of each.
-#[derive(Clone, Copy)]
+#[derive(Clone, Copy, Debug, PartialEq, Eq, Hash)]
 pub enum Fault {
     /// A datagram is too short or too long.
     DatagramLength = 1,
@@ -69,8 +72,15 @@ impl Fault {
     }
 }
 
+/// Prints the number.
+impl fmt::Display for Fault {
+    fn fmt<W: fmt::Write>(&self, f: &mut fmt::Formatter<W>) -> fmt::Result {
+        write!(f, "{}", self.number())
+    }
+}
+
 /// The part of the link that refuses.
-#[derive(Clone, Copy)]
+#[derive(Clone, Copy, Debug, PartialEq, Eq, Hash)]
 pub enum Layer {
     Packet,
     Sender,
@@ -81,12 +91,50 @@ pub enum Layer {
     Component,
 }
 
+impl Layer {
+    /// The refusal by this layer, for a fault at a place.
+    pub fn refusal(self, fault: Fault, place: usize) -> Refusal
+        ensures { RefusedBy self (fault_number fault) place result }
+    {
+        Refusal {
+            fault,
+            place,
+            layer: self,
+        }
+    }
+}
+
+impl fmt::Display for Layer {
+    fn fmt<W: fmt::Write>(&self, f: &mut fmt::Formatter<W>) -> fmt::Result {
+        f.write_str(match self {
+            Layer::Packet => "packet",
+            Layer::Sender => "sender",
+            Layer::Receiver => "receiver",
+            Layer::Block => "block",
+            Layer::Profile => "profile",
+            Layer::Component => "component",
+        })
+    }
+}
+
 /// A refusal: why, where, and by which layer.
 ///
 /// The place is the first byte of the field at fault, or the block; it is 0 where nothing can be pointed at.
-#[derive(Clone, Copy)]
+#[derive(Clone, Copy, Debug, PartialEq, Eq, Hash)]
 pub struct Refusal {
     pub fault: Fault,
     pub place: usize,
     pub layer: Layer,
 }
+
+impl fmt::Display for Refusal {
+    fn fmt<W: fmt::Write>(&self, f: &mut fmt::Formatter<W>) -> fmt::Result {
+        write!(
+            f,
+            "refused {} at {} in {}",
+            self.fault, self.place, self.layer
+        )
+    }
+}
+
+impl Error for Refusal {}
