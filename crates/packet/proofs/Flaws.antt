@@ -1,12 +1,12 @@
 -- The lowest flaw of a datagram, by the tests that it has passed.
-use Rattle.std.proofs.Common.{◌≡◌, ℕ, zero, suc, ◌+◌, ◌^◌, ◌<◌, ◌≤◌, List, length, get_or, take, sym, ap, subst, ⊎_elim, arith, lit<}
+use Rattle.std.proofs.Common.{◌≡◌, ℕ, zero, suc, ◌+◌, ◌^◌, ◌<◌, ◌≤◌, List, length, get_or, take, sym, subst, ⊎_elim, arith, lit<}
 use Rattle.std.proofs.lemmas.Bool.{cases_lt}
 use Rattle.wire.specs.declared.refusal.Refusal.{Refusal}
-use Rattle.wire.specs.declared.refusal.Fault.{Fault}
-use Rattle.wire.specs.Refusals.{fault_number}
+use Rattle.wire.specs.declared.refusal.Layer.TheVariants.{Packet}
+use Rattle.wire.specs.Refusals.{RefusedBy}
 use Rattle.packet.specs.Limits.{magic_bytes, version_byte, header_length, max_datagram, max_id}
 use Rattle.packet.specs.Packets.{PacketValue, InRange, Encodes, Numbered, body_start, padding_length, size_of, datagram_of}
-use Rattle.packet.specs.Datagrams.{Flaw, too_short, too_long, other_magic, other_version, upper_flags, no_id, long_id, id_past_end, no_body, other_body, misnumbered, PacketRefusal, Refused, stop_in, body_length_in, number_in, count_in, id_length_in}
+use Rattle.packet.specs.Datagrams.{Flaw, too_short, too_long, other_magic, other_version, upper_flags, no_id, long_id, id_past_end, no_body, other_body, misnumbered, Refused, stop_in, body_length_in, number_in, count_in, id_length_in}
 use Rattle.packet.proofs.Headers.{Told, laid, told, length_datagram}
 
 -- what the test of each number asks of a datagram
@@ -125,11 +125,9 @@ flawed_none xs n place f v e =
     omega arith
 
 -- the refusal that names the flaw at the first test that is not passed
-pub refused : {f : Fault} {place : ℕ} {e : Refusal} (xs : List ℕ) → PacketRefusal f place e → Passed xs (fault_number f) → Flaw xs (fault_number f) place → Refused xs e
-refused {f} {place} {e} xs r p w =
-    let n : fault_number e.fault ≡ fault_number f = ap fault_number r.fault_is in
-    record {
-      flaw = rw (n, r.place_is) w;
-      lowest = λ m q g. rw n (lowest xs (fault_number f) m q p g);
-      by_layer = r.by_layer;
-    }
+pub refused : {n place : ℕ} {e : Refusal} (xs : List ℕ) → RefusedBy Packet n place e → Passed xs n → Flaw xs n place → Refused xs e
+refused {n} {place} {e} xs r p w = record {
+  flaw = rw (r.number_is, r.place_is) w;
+  lowest = λ m q g. rw r.number_is (lowest xs n m q p g);
+  by_layer = r.by_layer;
+}

@@ -2,20 +2,20 @@
 use Rattle.std.proofs.Common.{◌≡◌, ℕ, ◌+◌, ◌-◌, ◌<◌, ◌≤◌, Bool, List, [], ◌∷◌, length, get_or, take, drop, sym, ap, ◌∙◌, subst, arith}
 use Rattle.std.proofs.lemmas.List.{take_rest, drop-drop}
 use Rattle.wire.specs.declared.order.ByteOrder.{ByteOrder}
-use Rattle.wire.specs.declared.refusal.Fault.{Fault}
 use Rattle.wire.specs.declared.refusal.Refusal.{Refusal}
 use Rattle.wire.specs.Numbers.{number_of}
-use Rattle.wire.specs.Refusals.{fault_number}
+use Rattle.wire.specs.declared.refusal.Layer.TheVariants.{Packet}
+use Rattle.wire.specs.Refusals.{RefusedBy}
 use Rattle.wire.proofs.Fronts.{take_elements}
 use Rattle.packet.specs.declared.Fields.{Fields}
 use Rattle.packet.specs.Limits.{magic_bytes}
 use Rattle.packet.specs.Packets.{PacketValue, Encodes, Numbered}
 use Rattle.packet.specs.Fields.{FieldsIn}
-use Rattle.packet.specs.Datagrams.{Flaw, PacketRefusal, Refused, order_in, body_length_in, number_in, count_in, id_length_in}
+use Rattle.packet.specs.Datagrams.{Flaw, Refused, order_in, body_length_in, number_in, count_in, id_length_in}
 use Rattle.packet.proofs.Flaws.{Passed, pass, pass_none, refused, flawed_none}
 
 -- a refusal is of bytes that are those of no packet
-pub refusing : {f : Fault} {place : ℕ} {e : Refusal} (xs : List ℕ) → PacketRefusal f place e → Passed xs (fault_number f) → Flaw xs (fault_number f) place → Refused xs e × ((v : PacketValue) → Encodes v xs → ⊥)
+pub refusing : {n place : ℕ} {e : Refusal} (xs : List ℕ) → RefusedBy Packet n place e → Passed xs n → Flaw xs n place → Refused xs e × ((v : PacketValue) → Encodes v xs → ⊥)
 refusing xs r p w = (refused xs r p w, flawed_none xs _ _ w)
 
 -- the slice pattern's four bytes

@@ -2,7 +2,6 @@
 use Rattle.std.specs.Prelude.{◌≡◌, ℕ, ◌+◌, ◌/◌, ◌%◌, ◌<◌, ◌≤◌, Bool, cond, List, length, take, drop, Result, MatchResult, ◌==◌, ◌≢◌, slice_index}
 use Rattle.wire.specs.declared.order.ByteOrder.{ByteOrder}
 use Rattle.wire.specs.declared.order.ByteOrder.TheVariants.{Big, Little}
-use Rattle.wire.specs.declared.refusal.Fault.{Fault}
 use Rattle.wire.specs.declared.refusal.Refusal.{Refusal}
 use Rattle.wire.specs.declared.refusal.Layer.TheVariants as layer
 use Rattle.wire.specs.Numbers.{number_of}
@@ -54,12 +53,6 @@ pub data Flaw (xs : List ℕ) : ℕ → ℕ → Type 0 where
   no_body : body_length_in xs ≡ 0 → Flaw xs 6 6
   other_body : (body_start (id_length_in xs) + body_length_in xs ≢ length xs) → Flaw xs 6 6
   misnumbered : (Numbered (number_in xs) (count_in xs) (stop_in xs) → ⊥) → Flaw xs 7 8
-
--- the packet layer refuses for this fault at this place
-pub record PacketRefusal (fault : Fault) (place : ℕ) (e : Refusal) : Type 0 where
-  pub fault_is : e.fault ≡ fault
-  pub place_is : e.place ≡ place
-  pub by_layer : e.layer ≡ layer.Packet
 
 -- the refusal names a flaw of the datagram, and none has a lower number
 pub record Refused (xs : List ℕ) (e : Refusal) : Type 0 where

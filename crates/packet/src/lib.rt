@@ -3,7 +3,7 @@
 
 ghost use Rattle.std.specs.Prelude.{◌≡◌, ℕ, ◌+◌, ◌^◌, ◌<◌, ◌≤◌, true, ◌++◌, length, take, drop, Decides, MatchResult};
 ghost use Rattle.packet.specs.Packets.{shown, body_start, flags_of, header_of, canonical, Numbered, OnePacket};
-ghost use Rattle.packet.specs.Datagrams.{order_of, stop_of, PacketRefusal, Refused, Reading};
+ghost use Rattle.packet.specs.Datagrams.{order_of, stop_of, Refused, Reading};
 ghost use Rattle.packet.specs.Fields.{FieldsIn};
 ghost use Rattle.packet.specs.Writing.{Writable, Written, Unwritten};
 
@@ -34,17 +34,15 @@ const NUMBER_AT: usize = 8;
 
 const ID_LENGTH_AT: usize = 16;
 
-// The most padding that stands before a body.
-const PADDING: [u8; 7] = [0; 7];
-
 /// A packet. Its id and its body are parts of the datagram that it was read from.
-#[derive(Clone, Copy)]
+#[derive(Clone, Copy, Debug, PartialEq, Eq)]
 pub struct Packet<'a> {
     pub order: ByteOrder,
     /// Whether this is the last packet of its message.
     pub stop: bool,
     pub number: u32,
-    /// How many packets the message has, or 0 where that is not said.
+    /// How many packets the message has, or 0 where that is not said: the header's own form, since an `Option`
+    /// could say `Some(0)` too.
     pub count: u32,
     /// The unique id of the message, the same in each of its packets.
     pub id: &'a [u8],
@@ -60,6 +58,7 @@ struct Fields {
     id_length: u32,
 }
 
+// One byte has both the order and the stop flag: a `From` to and from pairs would say no more than these three do.
 fn order_of(flags: u8) -> ByteOrder
     ensures { result ≡ order_of flags }
 {
@@ -80,24 +79,15 @@ fn read_fields(order: ByteOrder, rest: &[u8]) -> Fields
     requires { 14 ≤ length rest.now }
     ensures { FieldsIn order rest.now result }
 {
-    let [b0, b1, n0, n1, n2, n3, c0, c1, c2, c3, i0, i1, i2, i3, ..] = rest else {
-        unreachable()
-    };
+    let (body_length, rest) = rest.split_first_chunk::<2>().unwrap();
+    let (number, rest) = rest.split_first_chunk::<4>().unwrap();
+    let (count, rest) = rest.split_first_chunk::<4>().unwrap();
+    let (id_length, _) = rest.split_first_chunk::<4>().unwrap();
     Fields {
-        body_length: order.decode_u16([*b0, *b1]),
-        number: order.decode_u32([*n0, *n1, *n2, *n3]),
-        count: order.decode_u32([*c0, *c1, *c2, *c3]),
-        id_length: order.decode_u32([*i0, *i1, *i2, *i3]),
-    }
-}
-
-fn refusal(fault: Fault, place: usize) -> Refusal
-    ensures { PacketRefusal fault place result }
-{
-    Refusal {
-        fault,
-        place,
-        layer: Layer::Packet,
+        body_length: order.decode(*body_length),
+        number: order.decode(*number),
+        count: order.decode(*count),
+        id_length: order.decode(*id_length),
     }
 }
 
@@ -118,17 +108,6 @@ fn flags_of(order: ByteOrder, stop: bool) -> u8
     }
 }
 
-// Writes `part` at `at`, and answers where it ends.
-fn put(buffer: &mut [u8], at: usize, part: &[u8]) -> usize
-    requires { at + length part.now ≤ length buffer.old }
-    ensures next { result ≡ at + length part.now }
-    ensures after { buffer.new ≡ take at buffer.old ++ (part.now ++ drop (at + length part.now) buffer.old) }
-{
-    let end = at + part.len();
-    buffer[at..end].copy_from_slice(part);
-    end
-}
-
 // Whether number, count and stop flag go together.
 fn numbered(number: u32, count: u32, stop: bool) -> bool
     ensures { Decides result (Numbered number count stop) }
@@ -145,16 +124,16 @@ impl<'a> Packet<'a> {
         ensures one_packet { OnePacket }
     {
         if datagram.len() < HEADER_LENGTH || datagram.len() > MAX_DATAGRAM {
-            return Err(refusal(Fault::DatagramLength, 0));
+            return Err(Layer::Packet.refusal(Fault::DatagramLength, 0));
         }
         let [b'M', b'I', b'O', b'P', version, flags, rest @ ..] = datagram else {
-            return Err(refusal(Fault::Magic, 0));
+            return Err(Layer::Packet.refusal(Fault::Magic, 0));
         };
         if *version != VERSION {
-            return Err(refusal(Fault::Version, VERSION_AT));
+            return Err(Layer::Packet.refusal(Fault::Version, VERSION_AT));
         }
         if *flags >= 4 {
-            return Err(refusal(Fault::Flags, FLAGS_AT));
+            return Err(Layer::Packet.refusal(Fault::Flags, FLAGS_AT));
         }
         let order = order_of(*flags);
         let stop = stop_of(*flags);
@@ -162,14 +141,14 @@ impl<'a> Packet<'a> {
         let id_length = fields.id_length as usize;
         let start = body_start(id_length);
         if id_length == 0 || id_length > MAX_ID || start > datagram.len() {
-            return Err(refusal(Fault::IdLength, ID_LENGTH_AT));
+            return Err(Layer::Packet.refusal(Fault::IdLength, ID_LENGTH_AT));
         }
         let end = start + fields.body_length as usize;
         if fields.body_length == 0 || end != datagram.len() {
-            return Err(refusal(Fault::BodyLength, BODY_LENGTH_AT));
+            return Err(Layer::Packet.refusal(Fault::BodyLength, BODY_LENGTH_AT));
         }
         if !numbered(fields.number, fields.count, stop) {
-            return Err(refusal(Fault::Numbering, NUMBER_AT));
+            return Err(Layer::Packet.refusal(Fault::Numbering, NUMBER_AT));
         }
         Ok(Packet {
             order,
@@ -188,16 +167,17 @@ impl<'a> Packet<'a> {
             (λ n. Written (shown self.now) buffer.old buffer.new n)
             (λ e. Unwritten (shown self.now) buffer.old buffer.new e) }
     {
-        let size = self.checked_size()?;
-        if buffer.len() < size {
-            return Err(refusal(Fault::BufferLength, 0));
+        let length = self.checked_size()?;
+        if buffer.len() < length {
+            return Err(Layer::Packet.refusal(Fault::BufferLength, 0));
         }
-        let header = self.header();
-        let id_at = put(buffer, 0, &header);
-        let padding_at = put(buffer, id_at, self.id);
-        let start = size - self.body.len();
-        let body_at = put(buffer, padding_at, &PADDING[0..start - padding_at]);
-        Ok(put(buffer, body_at, self.body))
+        let padding_at = HEADER_LENGTH + self.id.len();
+        let body_at = length - self.body.len();
+        buffer[..HEADER_LENGTH].copy_from_slice(&self.header());
+        buffer[HEADER_LENGTH..padding_at].copy_from_slice(self.id);
+        buffer[padding_at..body_at].fill(0);
+        buffer[body_at..length].copy_from_slice(self.body);
+        Ok(length)
     }
 
     // The length of the packet's datagram, or why it has none.
@@ -208,20 +188,20 @@ impl<'a> Packet<'a> {
         let body_length = self.body.len();
         // These two come first so that the sum below cannot overflow.
         if id_length > MAX_DATAGRAM || body_length > MAX_DATAGRAM {
-            return Err(refusal(Fault::DatagramLength, 0));
+            return Err(Layer::Packet.refusal(Fault::DatagramLength, 0));
         }
         let size = body_start(id_length) + body_length;
         if size > MAX_DATAGRAM {
-            return Err(refusal(Fault::DatagramLength, 0));
+            return Err(Layer::Packet.refusal(Fault::DatagramLength, 0));
         }
         if id_length == 0 || id_length > MAX_ID {
-            return Err(refusal(Fault::IdLength, ID_LENGTH_AT));
+            return Err(Layer::Packet.refusal(Fault::IdLength, ID_LENGTH_AT));
         }
         if body_length == 0 {
-            return Err(refusal(Fault::BodyLength, BODY_LENGTH_AT));
+            return Err(Layer::Packet.refusal(Fault::BodyLength, BODY_LENGTH_AT));
         }
         if !numbered(self.number, self.count, self.stop) {
-            return Err(refusal(Fault::Numbering, NUMBER_AT));
+            return Err(Layer::Packet.refusal(Fault::Numbering, NUMBER_AT));
         }
         Ok(size)
     }
@@ -234,10 +214,10 @@ impl<'a> Packet<'a> {
     {
         let order = self.order;
         let flags = flags_of(order, self.stop);
-        let [b0, b1] = order.encode_u16(self.body.len() as u16);
-        let [n0, n1, n2, n3] = order.encode_u32(self.number);
-        let [c0, c1, c2, c3] = order.encode_u32(self.count);
-        let [i0, i1, i2, i3] = order.encode_u32(self.id.len() as u32);
+        let [b0, b1]: [u8; 2] = order.encode(self.body.len() as u16);
+        let [n0, n1, n2, n3]: [u8; 4] = order.encode(self.number);
+        let [c0, c1, c2, c3]: [u8; 4] = order.encode(self.count);
+        let [i0, i1, i2, i3]: [u8; 4] = order.encode(self.id.len() as u32);
         [
             b'M', b'I', b'O', b'P', VERSION, flags, b0, b1, n0, n1, n2, n3, c0, c1, c2, c3, i0, i1,
             i2, i3,

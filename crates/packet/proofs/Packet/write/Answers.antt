@@ -1,22 +1,24 @@
-use Rattle.std.proofs.Common.{◌≡◌, ℕ, ◌+◌, List, ◌++◌, length, take, drop, sym, ap, ◌∙◌, subst, arith}
-use Rattle.packet.specs.Packets.{shown, padding_length, zeros_of, canonical, size_of}
+use Rattle.std.proofs.Common.{◌≡◌, ◌++◌, length, drop, replicate, sym, ap, ◌∙◌, arith}
+use Rattle.std.proofs.lemmas.Grind.{common_steps}
+use Rattle.std.proofs.lemmas.List.{length-take}
+use Rattle.packet.specs.Packets.{shown, padding_length, zeros_of, canonical}
 use Rattle.packet.proofs.Headers.{length_header}
 use Rattle.packet.proofs.Values.{padded}
-use Rattle.packet.proofs.Writes.{zeros_are, parts_written, written}
+use Rattle.packet.proofs.Writes.{parts_written, written}
 use Rattle.packet.proofs.Packet.write.Goals as goal
+
+pub copy_from_slice-requires : goal.copy_from_slice-requires
+copy_from_slice-requires c =
+    let l = ap length c.header.ensures ∙ length_header (shown c.args.self.now) in
+    let w = c.in_ok-length.ensures.size_is in
+    rw length-take (omega arith)
 
 pub returns : goal.returns
 returns c =
     let v = shown c.args.self.now in
-    let w = c.in_ok-size.ensures in
-    let l = ap length c.header-header.ensures ∙ length_header v in
-    let z = zeros_are _ (padding_length (length v.id)) (omega arith) (omega arith) in
-    let lz = ap length z ∙ padded v in
-    let n3 : c.put-body_at.result ≡ c.put-padding_at.result + length (zeros_of v) = c.put-body_at.ensures.next ∙ ap (λ k. c.put-padding_at.result + length k) z in
-    let P : List ℕ → Type 0 = λ k. c.put-body_at.new.buffer ≡ take c.put-padding_at.result c.put-padding_at.new.buffer ++ (k ++ drop (c.put-padding_at.result + length k) c.put-padding_at.new.buffer) in
-    let e3 : P (zeros_of v) = subst P z c.put-body_at.ensures.after in
-    let b = parts_written v c.args.buffer.now _ _ _ _ _ _ _ _ c.header-header.ensures
-    c.put-id_at.ensures.after c.put-id_at.ensures.next c.put-padding_at.ensures.after c.put-padding_at.ensures.next
-    e3 n3 c.put.ensures.after in
-    let s : c.put.result ≡ size_of v = omega arith in
-    written v _ _ _ w.in_range s (omega arith) (b ∙ ap (λ k. canonical v ++ drop k c.args.buffer.now) (sym s))
+    let w = c.in_ok-length.ensures in
+    let p : length (zeros_of v) ≡ padding_length (length v.id) = padded v in
+    let z = c.fill.ensures.after (λ y e. e) ∙ ap (λ k. replicate k 0) (grind (arith, common_steps)) in
+    let b = parts_written v c.args.buffer.now _ _ _ _ _ _ (c.copy_from_slice.ensures.after ∙ c.header.ensures) c.copy_from_slice-2.ensures.after z
+    c.copy_from_slice-3.ensures.after (omega arith) (omega arith) in
+    written v _ _ _ w.in_range w.size_is (omega arith) (b ∙ ap (λ k. canonical v ++ drop k c.args.buffer.now) (sym w.size_is))
