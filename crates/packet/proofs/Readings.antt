@@ -9,7 +9,7 @@ use Rattle.wire.specs.Refusals.{RefusedBy}
 use Rattle.wire.proofs.Fronts.{take_elements}
 use Rattle.packet.specs.declared.Fields.{Fields}
 use Rattle.packet.specs.Limits.{magic_bytes}
-use Rattle.packet.specs.Packets.{PacketValue, Encodes, Numbered}
+use Rattle.packet.specs.Packets.{PacketValue, Encodes, Numbered, body_start}
 use Rattle.packet.specs.Fields.{FieldsIn}
 use Rattle.packet.specs.Datagrams.{Flaw, Refused, order_in, body_length_in, number_in, count_in, id_length_in}
 use Rattle.packet.proofs.Flaws.{Passed, pass, pass_none, refused, flawed_none}
@@ -54,6 +54,18 @@ fields_known {o} {f} xs e a =
 -- the tests before the numbers of the header
 pub pass_head : (xs : List ℕ) → 20 ≤ length xs → length xs ≤ 1472 → Opens xs → get_or xs 4 0 ≡ 16 → get_or xs 5 0 < 4 → Passed xs 5
 pass_head xs l s o v f = pass xs 4 (pass xs 3 (pass xs 2 (pass xs 1 (pass_none xs) (l, s)) (opens_magic xs l o)) v) f
+
+-- what the reader knows once it has the numbers of the header and the body's place
+pub record HeaderKnown (xs : List ℕ) (f : Fields) (start : ℕ) : Type 0 where
+  pub passed : Passed xs 5
+  pub fields : FieldsKnown xs f
+  pub start_is : start ≡ body_start (id_length_in xs)
+
+pub header_known : {o : ByteOrder} {f : Fields} {start : ℕ} (xs : List ℕ) → 20 ≤ length xs → length xs ≤ 1472 → Opens xs → get_or xs 4 0 ≡ 16 → get_or xs 5 0 < 4
+    → o ≡ order_in xs → FieldsIn o (take (length xs - 6) (drop 6 xs)) f → start ≡ body_start f.id_length → HeaderKnown xs f start
+header_known xs l s o v g e a b =
+    let k = fields_known xs e a in
+    record { passed = pass_head xs l s o v g; fields = k; start_is = b ∙ ap body_start k.id_is }
 
 -- what is borrowed from the datagram
 pub id_part : (xs : List ℕ) (n m : ℕ) → n ≡ m → take ((20 + n) - 20) (drop 20 xs) ≡ take m (drop 20 xs)

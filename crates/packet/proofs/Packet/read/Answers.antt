@@ -4,7 +4,7 @@ use Rattle.packet.specs.Packets.{PacketValue, Encodes, body_start}
 use Rattle.packet.specs.Datagrams.{too_short, too_long, other_magic, other_version, upper_flags, no_id, long_id, id_past_end, no_body, other_body, misnumbered, id_length_in}
 use Rattle.packet.proofs.Flaws.{pass_none, pass}
 use Rattle.packet.proofs.Encodings.{told_by, told_encodes, same_value, one_packet}
-use Rattle.packet.proofs.Readings.{refusing, Opens, opens_magic, magic_opens, fields_known, pass_head, numbers_known, id_part, body_part}
+use Rattle.packet.proofs.Readings.{refusing, Opens, opens_magic, magic_opens, header_known, numbers_known, id_part, body_part}
 use Rattle.packet.proofs.Packet.read.Goals as goal
 
 pub returns-then-datagram-lt-HEADER_LENGTH : goal.returns-then-datagram-lt-HEADER_LENGTH
@@ -44,39 +44,42 @@ returns-then-flags-ge4 c =
 pub returns-then-id_length-eq0 : goal.returns-then-id_length-eq0
 returns-then-id_length-eq0 c =
     let xs = c.args.datagram.now in
-    let p5 = pass_head xs c.if-datagram-lt-HEADER_LENGTH.false c.if-datagram-gt-MAX_DATAGRAM.false (search rules) c.if-version-ne-VERSION.false c.if-flags-ge4.false in
-    let k = fields_known xs c.order_of-order.ensures c.read_fields-fields.ensures in
-    let s : c.body_start-start.result ≡ body_start (id_length_in xs) = c.body_start-start.ensures ∙ ap body_start k.id_is in
+    let h = header_known xs c.if-datagram-lt-HEADER_LENGTH.false c.if-datagram-gt-MAX_DATAGRAM.false (search rules) c.if-version-ne-VERSION.false c.if-flags-ge4.false
+    c.order_of-order.ensures c.read_fields-fields.ensures c.body_start-start.ensures in
+    let k = h.fields in
+    let s = h.start_is in
     record {
-      answer = refusing xs c.refusal-then-id_length-eq0.ensures p5
-          (⊎_elim (λ h. no_id (sym k.id_is ∙ h)) (⊎_elim (λ h. long_id (rw k.id_is at h.1)) (λ h. id_past_end (rw s at h.2))) c.then-id_length-eq0.either);
+      answer = refusing xs c.refusal-then-id_length-eq0.ensures h.passed
+          (⊎_elim (λ e. no_id (sym k.id_is ∙ e)) (⊎_elim (λ e. long_id (rw k.id_is at e.1)) (λ e. id_past_end (rw s at e.2))) c.then-id_length-eq0.either);
       one_packet = one_packet;
     }
 
 pub returns-then-fields-eq0 : goal.returns-then-fields-eq0
 returns-then-fields-eq0 c =
     let xs = c.args.datagram.now in
-    let p5 = pass_head xs c.if-datagram-lt-HEADER_LENGTH.false c.if-datagram-gt-MAX_DATAGRAM.false (search rules) c.if-version-ne-VERSION.false c.if-flags-ge4.false in
-    let k = fields_known xs c.order_of-order.ensures c.read_fields-fields.ensures in
-    let s : c.body_start-start.result ≡ body_start (id_length_in xs) = c.body_start-start.ensures ∙ ap body_start k.id_is in
+    let h = header_known xs c.if-datagram-lt-HEADER_LENGTH.false c.if-datagram-gt-MAX_DATAGRAM.false (search rules) c.if-version-ne-VERSION.false c.if-flags-ge4.false
+    c.order_of-order.ensures c.read_fields-fields.ensures c.body_start-start.ensures in
+    let k = h.fields in
+    let s = h.start_is in
     let ki = k.id_is in
     let kb = k.body_is in
-    let p6 = pass xs 5 p5 (omega arith, omega arith, omega arith) in
+    let p6 = pass xs 5 h.passed (omega arith, omega arith, omega arith) in
     record {
       answer = refusing xs c.refusal-then-fields-eq0.ensures p6
-          (⊎_elim (λ h. no_body (omega arith)) (λ h. other_body (λ e. h.1 (omega arith))) c.then-fields-eq0.either);
+          (⊎_elim (λ e. no_body (omega arith)) (λ e. other_body (λ q. e.1 (omega arith))) c.then-fields-eq0.either);
       one_packet = one_packet;
     }
 
 pub returns-then-not-numbered : goal.returns-then-not-numbered
 returns-then-not-numbered c =
     let xs = c.args.datagram.now in
-    let p5 = pass_head xs c.if-datagram-lt-HEADER_LENGTH.false c.if-datagram-gt-MAX_DATAGRAM.false (search rules) c.if-version-ne-VERSION.false c.if-flags-ge4.false in
-    let k = fields_known xs c.order_of-order.ensures c.read_fields-fields.ensures in
-    let s : c.body_start-start.result ≡ body_start (id_length_in xs) = c.body_start-start.ensures ∙ ap body_start k.id_is in
+    let h = header_known xs c.if-datagram-lt-HEADER_LENGTH.false c.if-datagram-gt-MAX_DATAGRAM.false (search rules) c.if-version-ne-VERSION.false c.if-flags-ge4.false
+    c.order_of-order.ensures c.read_fields-fields.ensures c.body_start-start.ensures in
+    let k = h.fields in
+    let s = h.start_is in
     let ki = k.id_is in
     let kb = k.body_is in
-    let p6 = pass xs 5 p5 (omega arith, omega arith, omega arith) in
+    let p6 = pass xs 5 h.passed (omega arith, omega arith, omega arith) in
     let p7 = pass xs 6 p6 (omega arith, omega arith) in
     let e = numbers_known k.number_is k.count_is c.stop_of-stop.ensures in
     record {
@@ -87,12 +90,13 @@ returns-then-not-numbered c =
 pub returns : goal.returns
 returns c =
     let xs = c.args.datagram.now in
-    let p5 = pass_head xs c.if-datagram-lt-HEADER_LENGTH.false c.if-datagram-gt-MAX_DATAGRAM.false (search rules) c.if-version-ne-VERSION.false c.if-flags-ge4.false in
-    let k = fields_known xs c.order_of-order.ensures c.read_fields-fields.ensures in
-    let s : c.body_start-start.result ≡ body_start (id_length_in xs) = c.body_start-start.ensures ∙ ap body_start k.id_is in
+    let h = header_known xs c.if-datagram-lt-HEADER_LENGTH.false c.if-datagram-gt-MAX_DATAGRAM.false (search rules) c.if-version-ne-VERSION.false c.if-flags-ge4.false
+    c.order_of-order.ensures c.read_fields-fields.ensures c.body_start-start.ensures in
+    let k = h.fields in
+    let s = h.start_is in
     let ki = k.id_is in
     let kb = k.body_is in
-    let p6 = pass xs 5 p5 (omega arith, omega arith, omega arith) in
+    let p6 = pass xs 5 h.passed (omega arith, omega arith, omega arith) in
     let p7 = pass xs 6 p6 (omega arith, omega arith) in
     let e = numbers_known k.number_is k.count_is c.stop_of-stop.ensures in
     let p8 = pass xs 7 p7 (e.0 (c.numbered.ensures.0 c.if-not-numbered.false)) in
