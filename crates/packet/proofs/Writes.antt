@@ -1,31 +1,13 @@
 -- What the parts that the writer puts one after the other come to.
-use Rattle.std.proofs.Common.{◌≡◌, ℕ, ◌+◌, ◌-◌, ◌≤◌, List, ◌∷◌, ◌++◌, length, take, drop, sym, refl, ap, ◌∙◌, arith}
+use Rattle.std.proofs.Common.{◌≡◌, ℕ, ◌+◌, ◌-◌, ◌≤◌, List, ◌++◌, length, take, drop, sym, refl, ap, ◌∙◌, arith}
 use borrow.Rule.Slice.PartMut.{put_mid}
 use Rattle.std.proofs.lemmas.List.{append_assoc, length-append, take_at}
-use Rattle.wire.specs.Numbers.{digits}
-use Rattle.wire.proofs.Fronts.{elements, all_elements}
-use Rattle.wire.proofs.Numbers.{length_digits}
-use Rattle.packet.specs.Packets.{PacketValue, InRange, Encodes, flags_of, header_of, canonical, zeros_of, size_of}
+use Rattle.packet.specs.Packets.{PacketValue, InRange, Encodes, header_of, canonical, zeros_of, size_of}
 use Rattle.packet.specs.Writing.{Written}
 use Rattle.packet.proofs.Encodings.{reads_back}
 use Rattle.packet.proofs.Buffers.{Begun, begun_more}
 use Rattle.packet.proofs.Headers.{length_header}
 use Rattle.packet.proofs.Values.{padded, length_canonical}
-
-same_header : (f g : ℕ) (a b c d a' b' c' d' : List ℕ) → f ≡ g → a ≡ a' → b ≡ b' → c ≡ c' → d ≡ d'
-    → 77 ∷ 73 ∷ 79 ∷ 80 ∷ 16 ∷ f ∷ (a ++ (b ++ (c ++ d))) ≡ 77 ∷ 73 ∷ 79 ∷ 80 ∷ 16 ∷ g ∷ (a' ++ (b' ++ (c' ++ d')))
-same_header f g a b c d a' b' c' d' e p q r s = cc
-
--- the header, written byte by byte
-pub header_is : (v : PacketValue) (f : ℕ) (bs ns ks is : List ℕ)
-    → f ≡ flags_of v.order v.stop → bs ≡ digits v.order 2 (length v.body) → ns ≡ digits v.order 4 v.number
-    → ks ≡ digits v.order 4 v.count → is ≡ digits v.order 4 (length v.id)
-    → 77 ∷ 73 ∷ 79 ∷ 80 ∷ 16 ∷ f ∷ (elements 2 0 bs ++ (elements 4 0 ns ++ (elements 4 0 ks ++ elements 4 0 is))) ≡ header_of v
-header_is v f bs ns ks is ef eb en ek ei =
-    let o = v.order in
-    let written : (k : ℕ) (xs : List ℕ) (m : ℕ) → xs ≡ digits o k m → elements k 0 xs ≡ digits o k m =
-    λ k xs m e. sym (all_elements k xs (ap length e ∙ length_digits o k m)) ∙ e in
-    same_header _ _ _ _ _ _ _ _ _ _ ef (written 2 bs _ eb) (written 4 ns _ en) (written 4 ks _ ek) (written 4 is _ ei)
 
 -- header, id, padding and body, written in a row
 pub parts_written : (v : PacketValue) (was header id zeros body : List ℕ) (at end : ℕ) → header ≡ header_of v → id ≡ v.id

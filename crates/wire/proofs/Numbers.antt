@@ -3,7 +3,6 @@ use Rattle.std.proofs.Common.{◌≡◌, ℕ, zero, suc, ◌+◌, ◌-◌, ◌*�
 use native.Mathlib.Nat.{pow-zero}
 use Rattle.std.proofs.lemmas.List.{reverse-reverse, length-reverse, get_or-reverse, get_or_past, get_or-take, get_or-drop, length-take}
 use Rattle.std.proofs.lemmas.Bool.{cases_lt}
-use Rattle.wire.proofs.Fronts.{elements, all_elements}
 use Rattle.wire.specs.declared.order.ByteOrder.{ByteOrder}
 use Rattle.wire.specs.declared.order.ByteOrder.TheVariants.{Big, Little}
 use Rattle.wire.specs.Numbers.{Octets, low_digits, digits, low_number, number_of}
@@ -50,10 +49,6 @@ digits_number Little xs h = low_digits_number xs h
 digits_number Big xs h =
     ap (λ k. reverse (low_digits k (low_number (reverse xs)))) (sym (length-reverse xs))
     ∙ (ap reverse (low_digits_number (reverse xs) (octets_reverse xs h)) ∙ reverse-reverse xs)
-
--- the same number, of bytes that are written out
-pub number_elements : {o p : ByteOrder} (n : ℕ) → o ≡ p → (xs : List ℕ) → length xs ≡ n → number_of o xs ≡ number_of p (elements n 0 xs)
-number_elements n e xs h = let a = all_elements n xs h in cc
 
 -- a stretch of bytes is of bytes
 pub octets_stretch : (k n : ℕ) (xs : List ℕ) → Octets xs → Octets (take n (drop k xs))

@@ -19,7 +19,7 @@ fn sealed(heap: Global, front: &[u8]) -> Result<Vec<u8>, AllocError> {
     for (place, byte) in block.iter_mut().zip(front.iter()) {
         *place = *byte;
     }
-    let [high, low] = ByteOrder::Big.encode_u16(crc::check(block.as_slice()));
+    let [high, low]: [u8; 2] = ByteOrder::Big.encode(crc::check(block.as_slice()));
     block.push(high)?;
     block.push(low)?;
     Ok(block)

@@ -6,6 +6,8 @@ mod lawful_blocks;
 #[cfg(test)]
 mod packets;
 #[cfg(test)]
+mod refusals;
+#[cfg(test)]
 mod senders;
 #[cfg(test)]
 mod shelves;

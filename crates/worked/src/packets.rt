@@ -135,8 +135,10 @@ fn datagram(
     let mut bytes = vec![in heap; 0; length]?;
     set_all(&mut bytes, 0, b"MIOP");
     set_all(&mut bytes, 4, &[16, flags]);
-    set_all(&mut bytes, 6, &order.encode_u16(body));
-    set_all(&mut bytes, 16, &order.encode_u32(1));
+    let body_length: [u8; 2] = order.encode(body);
+    let id_length: [u8; 4] = order.encode(1u32);
+    set_all(&mut bytes, 6, &body_length);
+    set_all(&mut bytes, 16, &id_length);
     set_all(&mut bytes, 20, &[0x41]);
     for (at, byte) in changes {
         match order {

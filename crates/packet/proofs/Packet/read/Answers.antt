@@ -1,7 +1,7 @@
-use Rattle.std.proofs.Common.{◌≡◌, sym, ap, ◌∙◌, subst, ⊎_elim, arith, rules}
+use Rattle.std.proofs.Common.{sym, ◌∙◌, subst, ⊎_elim, arith, rules}
 use Rattle.std.proofs.lemmas.Bool.Decides.{not_from_Decides}
-use Rattle.packet.specs.Packets.{PacketValue, Encodes, body_start}
-use Rattle.packet.specs.Datagrams.{too_short, too_long, other_magic, other_version, upper_flags, no_id, long_id, id_past_end, no_body, other_body, misnumbered, id_length_in}
+use Rattle.packet.specs.Packets.{PacketValue, Encodes}
+use Rattle.packet.specs.Datagrams.{too_short, too_long, other_magic, other_version, upper_flags, no_id, long_id, id_past_end, no_body, other_body, misnumbered}
 use Rattle.packet.proofs.Flaws.{pass_none, pass}
 use Rattle.packet.proofs.Encodings.{told_by, told_encodes, same_value, one_packet}
 use Rattle.packet.proofs.Readings.{refusing, Opens, opens_magic, magic_opens, header_known, numbers_known, id_part, body_part}
