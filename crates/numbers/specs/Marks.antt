@@ -1,16 +1,12 @@
 -- A set of packet numbers, as marks: 1 at a number of the set, 0 at any other.
-use Rattle.std.specs.Prelude.{◌≡◌, ℕ, zero, suc, ◌+◌, ◌/◌, ◌%◌, ◌<◌, ◌≤◌, ◌≢◌}
+use Rattle.std.specs.Prelude.{◌≡◌, ℕ, zero, suc, ◌+◌, ◌<◌, ◌≤◌, ◌≢◌}
+use Rattle.std.specs.Int.{bit_at}
 use Rattle.wire.specs.Limits.{max_packets}
 use Rattle.numbers.specs.declared.NumberSet.{NumberSet}
 
--- the digit k of m in base 2, 0 or 1, where digit 0 is the lowest
-abbrev pub bit : ℕ → ℕ → ℕ
-bit m zero = m % 2
-bit m (suc k) = bit (m / 2) k
-
 -- 1 if k is in the set s, else 0
 unfoldable pub has : NumberSet → ℕ → ℕ
-has s k = bit s.bits k
+has s k = bit_at s.bits k
 
 -- f 0 + .. + f (j - 1)
 unfoldable pub tally : (ℕ → ℕ) → ℕ → ℕ

@@ -3,20 +3,22 @@
 // Other crates know a set by `has` of specs/Marks.antt alone: how it stands in memory is of this crate.
 #![tactic(auto)]
 
-ghost use Rattle.std.specs.Prelude.{◌≡◌, ◌<◌, Decides, MatchOption};
+ghost use Rattle.std.specs.Prelude.{◌≡◌, ◌<◌, ◌↔◌, IsTrue, MatchOption};
 ghost use Rattle.wire.specs.Limits.{max_packets};
 ghost use Rattle.numbers.specs.Marks.{has, tally, NoneMarked, Inserted, Lowest, Highest};
 
 use wire::limits::MAX_PACKETS;
 
 /// A set of packet numbers.
-#[derive(Clone, Copy)]
+// It has no Model: `has` hides the bits as well, and a Copy value would have to get them back from its marks.
+#[derive(Clone, Copy, Debug, PartialEq, Eq)]
 pub struct NumberSet {
     bits: u64,
 }
 
 impl NumberSet {
     /// The set of no number.
+    // No Default stands beside it: `empty` says what the set is, and nothing takes a Default.
     pub fn empty() -> Self
         ensures { NoneMarked (has result) }
     {
@@ -37,7 +39,7 @@ impl NumberSet {
 
     /// Whether n is in the set.
     pub fn contains(self, n: u8) -> bool
-        ensures { Decides result (has self n ≡ 1) }
+        ensures { IsTrue result ↔ (has self n ≡ 1) }
     {
         (n as u32) < MAX_PACKETS && self.bits >> n & 1 == 1
     }
@@ -53,7 +55,7 @@ impl NumberSet {
     pub fn lowest_absent(self) -> u32
         ensures { Lowest (has self) max_packets result }
     {
-        (!self.bits).trailing_zeros()
+        self.bits.trailing_ones()
     }
 
     /// The highest number in the set, if there is one.

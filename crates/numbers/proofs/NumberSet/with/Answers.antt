@@ -1,8 +1,6 @@
-use Rattle.std.proofs.Common.{ℕ, ap, ◌∙◌}
-use lib.Bits.{bit_or}
-use Rattle.std.proofs.lemmas.Nat.{one_shl}
-use Rattle.numbers.specs.Marks.{has, bit}
-use Rattle.numbers.proofs.Digits.{bit_set_here, bit_set_there}
+use Rattle.std.specs.Int.{w64}
+use Rattle.std.proofs.lemmas.Nat.Bits.{bit_at_set_same, bit_at_set_other}
+use Rattle.numbers.specs.Marks.{has}
 use Rattle.numbers.proofs.NumberSet.with.Goals as goal
 
 pub returns : goal.returns
@@ -10,8 +8,5 @@ unfolding has
 returns c =
     let m = c.args.self.bits in
     let n = c.args.n in
-    let e = one_shl n 64 c.if-n-ge-MAX_PACKETS.false in
-    record {
-      here = λ l. ap (λ (x : ℕ). bit (bit_or m x) n) e ∙ bit_set_here m n;
-      there = λ k ne. ap (λ (x : ℕ). bit (bit_or m x) k) e ∙ bit_set_there m n k ne;
-    }
+    let within = c.if-n-ge-MAX_PACKETS.false in
+    record { here = λ _. bit_at_set_same w64 m n within; there = bit_at_set_other w64 m n within }
