@@ -1,36 +1,15 @@
 -- What a summary tells of the packets that it is of.
-use Rattle.std.proofs.Common.{◌≡◌, ℕ, ◌+◌, ◌<◌, ◌≤◌, Bool, true, false, not, ◌&&◌, ◌||◌, eqb, ◌⊎◌, List, length, Decides, sym, refl, ap, ◌∙◌, inl, inr, arith}
+use Rattle.std.proofs.Common.{◌≡◌, ℕ, ◌-◌, ◌<◌, ◌≤◌, Bool, true, false, not, ◌&&◌, ◌||◌, eqb, ◌⊎◌, List, length, Some, None, Option, MatchOption, unwrap_or, nat_lt, Decides, sym, refl, ap, ◌∙◌, inl, inr, arith}
 use mathlib.Core.Bool.{beq}
-use Rattle.std.proofs.lemmas.Bool.{cases_eq, cases_lt, cases_Bool, true≢false, false≢true}
-use Rattle.std.proofs.lemmas.Bool.Decides.{nat_tests, Decides-or, Decides-and, Decides-not, Decides-like}
+use Rattle.std.proofs.lemmas.Bool.{cases_eq, cases_lt, cases_Bool, true≢false}
+use Rattle.std.specs.Cmp.{booleans_Decides}
+use Rattle.std.proofs.lemmas.Bool.Decides.{Decides-or, Decides-and, Decides-not, Decides-like, Decides-at, Decides-eqb, Decides-ltb, not_from_Decides}
+use Rattle.std.specs.Option.{ForSome, option_zip}
 use Rattle.shelf.specs.Pieces.{HoldsJust}
-use Rattle.collection.specs.Fragments.{FragmentValue, Exactly, In, SomeIn, Heard, Against, Contradict, OtherPiece, OtherCount, PastStop, OutsideCount, OtherLength, LongerStop, Either}
+use Rattle.collection.specs.Fragments.{FragmentValue, In, SomeIn, Heard, Against, Contradict, OtherPiece, OtherCount, PastStop, OutsideCount, OtherLength, LongerStop, Either}
 use Rattle.collection.specs.Fragments.Contradict.{other_piece, other_count, past_stop, outside_count, other_length, longer_stop}
 use Rattle.collection.specs.declared.summary.Summary.{Summary}
-use Rattle.collection.specs.Kept.{Open}
-
--- ---- tests
-
-pub cases_same : (a b : Bool) → (a ≡ b) ⊎ (a ≡ b → ⊥)
-cases_same true true = inl refl
-cases_same true false = inr true≢false
-cases_same false true = inr false≢true
-cases_same false false = inl refl
-
-decides_beq : (a b : Bool) → Decides (beq a b) (a ≡ b)
-decides_beq true true = (λ h. refl, λ e. refl)
-decides_beq true false = (λ h. absurd (false≢true h), λ e. absurd (true≢false e))
-decides_beq false true = (λ h. absurd (false≢true h), λ e. absurd (false≢true e))
-decides_beq false false = (λ h. refl, λ e. refl)
-
-decides_same : (b : Bool) (m n : ℕ) → Decides (beq b (eqb m n)) (Exactly (b ≡ true) (m ≡ n))
-decides_same b m n = Decides-like (beq b (eqb m n))
-    (λ e. (λ t. let u : eqb m n ≡ true = sym e ∙ t in grind (arith, nat_tests), λ h. let u : eqb m n ≡ true = grind (arith, nat_tests) in e ∙ u))
-    (λ x. elim (cases_Bool b) [
-      | inl t ↦ let h : m ≡ n = x.0 t in let u : eqb m n ≡ true = grind (arith, nat_tests) in t ∙ sym u
-      | inr f ↦ let ne : m ≡ n → ⊥ = λ h. true≢false (sym (x.1 h) ∙ f) in let u : eqb m n ≡ false = grind (arith, nat_tests) in f ∙ sym u
-    ])
-    (decides_beq b (eqb m n))
+use Rattle.collection.specs.Kept.{Open, Tells}
 
 -- a place that holds just these bytes, where there are some
 pub holds_same : (x : Bool) (held bytes : List ℕ) → 0 < length bytes → Decides x (HoldsJust held bytes) → Decides x (held ≡ bytes)
@@ -47,44 +26,59 @@ either_in ps P Q x y d e = Decides-like (x || y)
 pub alike_in : (ps : List FragmentValue) (P Q : FragmentValue → Type 0) (x : Bool) → ((a : FragmentValue) → P a → Q a) → ((a : FragmentValue) → Q a → P a) → Decides x (SomeIn ps P) → Decides x (SomeIn ps Q)
 alike_in ps P Q x f g d = Decides-like x (λ s. (s.0, s.1, f s.0 s.2)) (λ s. (s.0, s.1, g s.0 s.2)) d
 
+-- R holds of q and a packet heard, in one order or the other
+pub either_told : (s : Summary) (R : FragmentValue → FragmentValue → Type 0) (q : FragmentValue) (x y : Bool) → Tells s x (R q) → Tells s y (λ a. R a q) → Tells s (x || y) (Either R q)
+either_told s R q x y d e = λ ps piece o. either_in ps (R q) (λ a. R a q) x y (d ps piece o) (e ps piece o)
+
 -- ---- a count against a packet
 
-pub outside_forth : (q a : FragmentValue) (end : ℕ) → q.count ≡ end + 1 → ((q.count ≤ a.number) ⊎ ((a.stop ≡ true) × (a.number < end))) ⊎ ((a.stop ≡ false) × (a.number ≡ end)) → OutsideCount q a
-outside_forth q a end e (inl (inl h)) = (omega arith, inl h)
-outside_forth q a end e (inl (inr h)) = (omega arith, inr (λ x. omega (arith, x.0 h.0, h.1)))
-outside_forth q a end e (inr h) = (omega arith, inr (λ x. true≢false (sym (x.1 (omega (arith, h.1))) ∙ h.0)))
+outside_forth : (q a : FragmentValue) (n : ℕ) → 0 < n → q.count ≡ n → ((n ≤ a.number) ⊎ ((a.stop ≡ true) × (a.number < n - 1))) ⊎ ((a.stop ≡ false) × (a.number ≡ n - 1)) → OutsideCount q a
+outside_forth q a n some e (inl (inl h)) = (omega (arith, some, e), inl (omega (arith, e, h)))
+outside_forth q a n some e (inl (inr h)) = (omega (arith, some, e), inr (λ x. omega (arith, e, x.0 h.0, h.1)))
+outside_forth q a n some e (inr h) = (omega (arith, some, e), inr (λ x. true≢false (sym (x.1 (omega (arith, some, e, h.1))) ∙ h.0)))
 
-pub outside_back : (q a : FragmentValue) (end : ℕ) → q.count ≡ end + 1 → OutsideCount q a → ((q.count ≤ a.number) ⊎ ((a.stop ≡ true) × (a.number < end))) ⊎ ((a.stop ≡ false) × (a.number ≡ end))
-outside_back q a end e h = elim h.1 [
-  | inl l ↦ inl (inl l)
-  | inr ne ↦ elim (cases_lt a.number q.count) [
-    | inr l ↦ inl (inl l)
-    | inl l ↦ elim (cases_Bool a.stop) [
-      | inl t ↦ elim (cases_lt a.number end) [
-        | inl m ↦ inl (inr (t, m))
-        | inr m ↦ absurd (ne (λ _. omega (arith, l, m), λ _. t))
-      ]
-      | inr f ↦ elim (cases_eq a.number end) [
-        | inl m ↦ inr (f, m)
-        | inr m ↦ absurd (ne (λ t. absurd (true≢false (sym t ∙ f)), λ u. absurd (m (omega (arith, u)))))
-      ]
+outside_back : (q a : FragmentValue) (n : ℕ) → q.count ≡ n → OutsideCount q a → ((n ≤ a.number) ⊎ ((a.stop ≡ true) × (a.number < n - 1))) ⊎ ((a.stop ≡ false) × (a.number ≡ n - 1))
+outside_back q a n e (some, inl l) = inl (inl (omega (arith, e, l)))
+outside_back q a n e (some, inr ne) = elim (cases_lt a.number n) [
+  | inr l ↦ inl (inl l)
+  | inl l ↦ elim (cases_Bool a.stop) [
+    | inl t ↦ elim (cases_lt a.number (n - 1)) [
+      | inl m ↦ inl (inr (t, m))
+      | inr m ↦ absurd (ne (λ _. omega (arith, some, e, l, m), λ _. t))
+    ]
+    | inr f ↦ elim (cases_eq a.number (n - 1)) [
+      | inl m ↦ inr (f, m)
+      | inr m ↦ absurd (ne (λ t. absurd (true≢false (sym t ∙ f)), λ u. absurd (m (omega (arith, e, u)))))
     ]
   ]
 ]
+
+-- a packet heard is outside the count n that q says: a number too high, a stop packet too low, or no stop packet at the end
+pub outside_told : (s : Summary) (q : FragmentValue) (n : ℕ) (x y z : Bool) → 0 < n → q.count ≡ n → Tells s x (λ a. n ≤ a.number)
+    → Tells s y (λ a. (a.stop ≡ true) × (a.number < n - 1)) → Tells s z (λ a. (a.stop ≡ false) × (a.number ≡ n - 1)) → Tells s ((x || y) || z) (OutsideCount q)
+outside_told s q n x y z some e high low on = λ ps piece o.
+    let H : FragmentValue → Type 0 = λ a. n ≤ a.number in
+    let L : FragmentValue → Type 0 = λ a. (a.stop ≡ true) × (a.number < n - 1) in
+    let G : FragmentValue → Type 0 = λ a. (a.stop ≡ false) × (a.number ≡ n - 1) in
+    alike_in ps (λ a. (H a ⊎ L a) ⊎ G a) (OutsideCount q) ((x || y) || z) (λ a h. outside_forth q a n some e h) (λ a h. outside_back q a n e h)
+    (either_in ps (λ a. H a ⊎ L a) G (x || y) z (either_in ps H L x y (high ps piece o) (low ps piece o)) (on ps piece o))
 
 -- ---- packets of which no two contradict, and their summary
 
 module _ (ps : List FragmentValue) (s : Summary) (piece : ℕ → List ℕ) (o : Open ps s piece) where
   pub same_stop : (a b : FragmentValue) → In a ps → In b ps → a.number ≡ b.number → a.stop ≡ b.stop
-  same_stop a b i j e = elim (cases_same a.stop b.stop) [ inl h ↦ h | inr ne ↦ absurd (o.calm a b i j (other_piece (e, λ x. ne x.1))) ]
+  same_stop a b i j e =
+      let d = booleans_Decides a.stop b.stop in
+      elim (cases_Bool (beq a.stop b.stop)) [
+        | inl t ↦ d.0 t
+        | inr f ↦ absurd (o.calm a b i j (other_piece (e, λ x. not_from_Decides (beq a.stop b.stop) d f x.1)))
+      ]
 
-  pub said_count : (a : FragmentValue) → In a ps → 0 < a.count → a.count ≡ s.count
-  said_count a i p = elim (cases_eq s.count 0) [
-    | inl z ↦ absurd (omega (arith, o.unsaid z a i))
-    | inr ne ↦
-        let b = o.said (omega (arith, ne)) in
-        elim (cases_eq a.count b.0.count) [ inl e ↦ e ∙ b.2 | inr n ↦ absurd (o.calm a b.0 i b.1 (other_count (p, omega (arith, b.2, ne), n))) ]
-  ]
+  -- a count that is heard is the one that the summary has
+  pub said_count : (a : FragmentValue) (n : ℕ) → In a ps → 0 < a.count → s.count ≡ Some n → a.count ≡ n
+  said_count a n i some e =
+      let b = o.said n e in
+      elim (cases_eq a.count b.0.count) [ inl f ↦ f ∙ b.2.1 | inr ne ↦ absurd (o.calm a b.0 i b.1 (other_count (some, b.2.0, ne))) ]
 
   pub stop_told : (n : ℕ) (r : Bool) → Decides r (SomeIn ps (λ a. (a.stop ≡ true) × (a.number ≡ n))) → (a : FragmentValue) → In a ps → a.number ≡ n → a.stop ≡ r
   stop_told n r d a i e = elim (cases_Bool r) [
@@ -103,17 +97,40 @@ module _ (ps : List FragmentValue) (s : Summary) (piece : ℕ → List ℕ) (o :
   other_told q x r d e h = Decides-like (not (x && beq q.stop r))
       (λ ne. (h.0, h.1, (sym h.2, λ y. ne (body h.0 h.1 h.2 ∙ sym y.0, y.1 ∙ stop_told q.number r e h.0 h.1 h.2))))
       (λ b y. b.2.1 (sym y.0 ∙ body b.0 b.1 (sym b.2.0), y.1 ∙ sym (stop_told q.number r e b.0 b.1 (sym b.2.0))))
-      (Decides-not (x && beq q.stop r) (Decides-and x (beq q.stop r) d (decides_beq q.stop r)))
+      (Decides-not (x && beq q.stop r) (Decides-and x (beq q.stop r) d (booleans_Decides q.stop r)))
     where
       body : (a : FragmentValue) → In a ps → a.number ≡ q.number → piece q.number ≡ a.body
       body a i f = ap piece (sym f) ∙ o.kept a i
 
-  pub outside_told : (q : FragmentValue) → 0 < s.count → q.number < s.count → Decides (not (beq q.stop (eqb (q.number + 1) s.count))) (SomeIn ps (λ a. OutsideCount a q))
-  outside_told q p l = Decides-like (not (beq q.stop (eqb (q.number + 1) s.count)))
-      (λ ne. let a = o.said p in (a.0, a.1, (omega (arith, a.2), inr (λ x. ne (λ t. x.0 t ∙ a.2, λ y. x.1 (y ∙ sym a.2))))))
-      (λ a x. let e = said_count a.0 a.1 a.2.0 in
-      elim a.2.1 [ inl m ↦ omega (arith, e, m) | inr ne ↦ ne (λ t. x.0 t ∙ sym e, λ y. x.1 (y ∙ e)) ])
-      (Decides-not (beq q.stop (eqb (q.number + 1) s.count)) (decides_same q.stop (q.number + 1) s.count))
+  -- a length that the summary has is that of each packet heard that is no stop packet
+  pub plain_sized : (a : FragmentValue) (l : ℕ) → In a ps → a.stop ≡ false → s.length ≡ Some l → length a.body ≡ l
+  plain_sized a l i f e =
+      let b = o.long l e in
+      elim (cases_eq (length a.body) (length b.0.body)) [ inl g ↦ g ∙ b.2.1 | inr ne ↦ absurd (o.calm a b.0 i b.1 (other_length (f, b.2.0, ne))) ]
+
+-- the count c that q says against the one that the summary has, if there are both
+pub other_count_told : (s : Summary) (q : FragmentValue) (c : Option ℕ) (r : Bool) → q.count ≡ unwrap_or c 0 → ForSome c (λ n. 0 < n)
+    → MatchOption (option_zip s.count c) (r ≡ false) (λ x. r ≡ not (eqb x.0 x.1)) → Tells s r (OtherCount q)
+other_count_told s q c r says some told ps piece o = go s.count c refl says some told
+  where
+    go : (m c : Option ℕ) → s.count ≡ m → q.count ≡ unwrap_or c 0 → ForSome c (λ n. 0 < n) → MatchOption (option_zip m c) (r ≡ false) (λ x. r ≡ not (eqb x.0 x.1)) → Decides r (SomeIn ps (OtherCount q))
+    go None c e says some told = (λ t. absurd (true≢false (sym t ∙ told)), λ a. absurd (omega (arith, o.unsaid e a.0 a.1, a.2.1)))
+    go (Some m) None e says some told = (λ t. absurd (true≢false (sym t ∙ told)), λ a. absurd (omega (arith, says, a.2.0)))
+    go (Some m) (Some n) e says some told = Decides-like r
+        (λ ne. let a = o.said m e in (a.0, a.1, (omega (arith, says, some n refl), a.2.0, λ h. ne (sym a.2.1 ∙ sym h ∙ says))))
+        (λ a h. a.2.2 (says ∙ sym h ∙ sym (said_count ps s piece o a.0 m a.1 a.2.1 e)))
+        (Decides-at r (not (eqb m n)) told (Decides-not (eqb m n) (Decides-eqb m n)))
+
+-- a stop packet against the length that the summary has, if there is one
+pub longer_told : (s : Summary) (q : FragmentValue) (r : Bool) → q.stop ≡ true → MatchOption s.length (r ≡ false) (λ l. r ≡ nat_lt l (length q.body)) → Tells s r (LongerStop q)
+longer_told s q r stop told ps piece o = go s.length refl told
+  where
+    go : (m : Option ℕ) → s.length ≡ m → MatchOption m (r ≡ false) (λ l. r ≡ nat_lt l (length q.body)) → Decides r (SomeIn ps (LongerStop q))
+    go None e told = (λ t. absurd (true≢false (sym t ∙ told)), λ a. absurd (true≢false (sym (o.short e a.0 a.1) ∙ a.2.1)))
+    go (Some l) e told = Decides-like r
+        (λ h. let a = o.long l e in (a.0, a.1, (stop, a.2.0, omega (arith, a.2.1, h))))
+        (λ a. omega (arith, plain_sized ps s piece o a.0 l a.1 a.2.1 e, a.2.2))
+        (Decides-at r (nat_lt l (length q.body)) told (Decides-ltb l (length q.body)))
 
 -- the six ways to contradict, told one by one
 pub all_told : (ps : List FragmentValue) (q : FragmentValue) (x1 x2 x3 x4 x5 x6 : Bool)

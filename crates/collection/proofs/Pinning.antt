@@ -127,7 +127,7 @@ order ps qs s piece to from o = record {
   bare = o.bare;
   ended = λ z e. let a = o.ended z e in (a.0, to a.0 a.1, a.2);
   endless = λ e a i. o.endless e a (from a i);
-  said = λ p. let a = o.said p in (a.0, to a.0 a.1, a.2);
+  said = λ n e. let a = o.said n e in (a.0, to a.0 a.1, a.2);
   unsaid = λ z a i. o.unsaid z a (from a i);
   long = λ l e. let a = o.long l e in (a.0, to a.0 a.1, a.2);
   short = λ e a i. o.short e a (from a i);

@@ -1,5 +1,6 @@
 -- One packet more.
-use Rattle.std.proofs.Common.{◌≡◌, ℕ, true, false, ◌⊎◌, List, ◌∷◌, length, Some, sym, refl, ap, ◌∙◌, subst, inl, inr, arith}
+use Rattle.std.proofs.Common.{◌≡◌, ℕ, ◌<◌, true, false, ◌⊎◌, List, ◌∷◌, length, Some, None, Option, unwrap_or, sym, refl, ap, ◌∙◌, subst, inl, inr, arith}
+use Rattle.std.proofs.lemmas.Option.{none-some, same_Some}
 use Rattle.std.proofs.lemmas.Bool.{cases_eq, cases_Bool}
 use Rattle.std.proofs.lemmas.Bool.Decides.{nat_tests}
 use Rattle.numbers.specs.Marks.{has, Inserted}
@@ -10,11 +11,16 @@ use Rattle.collection.specs.declared.summary.Summary.{Summary}
 use Rattle.collection.specs.Kept.{Open, PiecePut, Taken, StopWith, CountWith, LengthWith, shown}
 use Rattle.collection.proofs.Pinning.{same_body, calm_more}
 
+-- a count that is not 0 is said
+said_some : (c : Option ℕ) → 0 < unwrap_or c 0 → c ≡ Some (unwrap_or c 0)
+said_some None l = absurd (omega arith)
+said_some (Some n) l = refl
+
 pub fragment_ranged : (p : Fragment) → Ranged (shown p)
 fragment_ranged p = record {
   limits = p.limits;
-  within = p.within;
-  ends = λ l. let e = p.ends l in (λ t. grind (arith, nat_tests), λ h. grind (arith, nat_tests));
+  within = λ l. p.within _ (said_some p.count l);
+  ends = λ l. let e = p.ends _ (said_some p.count l) in (λ t. grind (arith, nat_tests), λ h. grind (arith, nat_tests));
 }
 
 -- what holds of q and of every packet of ps
@@ -51,31 +57,29 @@ module _ (s t : Summary) (q : FragmentValue) (ranged : Ranged q)
     bare = λ n z. elim (marks n) [ inl m ↦ absurd (omega (arith, m.1, z)) | inr m ↦ put.there n m.0 ∙ o.bare n (sym m.1 ∙ z) ];
     ended = λ z e. elim (cases_Bool q.stop) [
       | inl l ↦
-          let v : Last = record { number = q.number; length = length q.body } in
-          let h : t.stop ≡ Some v = stopped.new l in
-          let f : v ≡ z = cc in
+          let f = same_Some (record { number = q.number; length = length q.body }) z (sym (stopped.new l) ∙ e) in
           (q, inl refl, (l, ap (λ (x : Last). x.number) f, ap (λ (x : Last). x.length) f))
       | inr f ↦ some_more ps q (λ a. (a.stop ≡ true) × (a.number ≡ z.number) × (length a.body ≡ z.length)) (o.ended z (sym (stopped.old f) ∙ e))
     ];
     endless = λ e. elim (cases_Bool q.stop) [
-      | inl l ↦ let h = stopped.new l in absurd (let z : ◌≡◌ {A = ℕ} 0 1 = cc in omega arith)
+      | inl l ↦ absurd (none-some _ (sym e ∙ stopped.new l))
       | inr f ↦ each_more ps q (λ a. a.stop ≡ false) f (o.endless (sym (stopped.old f) ∙ e))
     ];
-    said = λ p. elim (cases_eq q.count 0) [
-      | inl z ↦ let h = counted.old z in let b = o.said (omega arith) in (b.0, inr b.1, b.2 ∙ sym h)
-      | inr ne ↦ (q, inl refl, sym (counted.new (omega (arith, ne))))
+    said = λ n e. elim (cases_eq q.count 0) [
+      | inl z ↦ some_more ps q (λ a. (0 < a.count) × (a.count ≡ n)) (o.said n (sym (counted.old z) ∙ e))
+      | inr ne ↦ let some : 0 < q.count = omega (arith, ne) in (q, inl refl, (some, same_Some q.count n (sym (counted.new some) ∙ e)))
     ];
-    unsaid = λ z. elim (cases_eq q.count 0) [
-      | inl y ↦ each_more ps q (λ a. a.count ≡ 0) y (o.unsaid (sym (counted.old y) ∙ z))
-      | inr ne ↦ absurd (omega (arith, counted.new (omega (arith, ne)), z))
+    unsaid = λ e. elim (cases_eq q.count 0) [
+      | inl z ↦ each_more ps q (λ a. a.count ≡ 0) z (o.unsaid (sym (counted.old z) ∙ e))
+      | inr ne ↦ absurd (none-some _ (sym e ∙ counted.new (omega (arith, ne))))
     ];
     long = λ l e. elim (cases_Bool q.stop) [
       | inl y ↦ some_more ps q (λ a. (a.stop ≡ false) × (length a.body ≡ l)) (o.long l (sym (sized.old y) ∙ e))
-      | inr f ↦ let h = sized.new f in let b : length q.body ≡ l = cc in (q, inl refl, (f, b))
+      | inr f ↦ (q, inl refl, (f, same_Some (length q.body) l (sym (sized.new f) ∙ e)))
     ];
     short = λ e. elim (cases_Bool q.stop) [
       | inl y ↦ each_more ps q (λ a. a.stop ≡ true) y (o.short (sym (sized.old y) ∙ e))
-      | inr f ↦ let h = sized.new f in absurd (let z : ◌≡◌ {A = ℕ} 0 1 = cc in omega arith)
+      | inr f ↦ absurd (none-some _ (sym e ∙ sized.new f))
     ];
   }
 

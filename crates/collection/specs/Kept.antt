@@ -1,5 +1,6 @@
 -- What is kept of the packets heard of one unique id, and what the calls say of it.
-use Rattle.std.specs.Prelude.{◌≡◌, ℕ, ◌<◌, Bool, true, false, List, [], ◌∷◌, length, Some, None, Decides, Option, ◌≢◌}
+use Rattle.std.specs.Prelude.{◌≡◌, ℕ, ◌<◌, ◌↔◌, Bool, true, false, IsTrue, List, [], ◌∷◌, length, Some, Option, unwrap_or, ◌≢◌}
+use Rattle.std.specs.Option.{ForSome, ForNone}
 use Rattle.numbers.specs.Marks.{has}
 use Rattle.collection.specs.Fragments.{FragmentValue, Ranged, In, SomeIn, Heard, Against, Calm, Counted, LowestUnheard}
 use Rattle.collection.specs.declared.fragment.Fragment.{Fragment}
@@ -24,17 +25,25 @@ pub record Open (ps : List FragmentValue) (s : Summary) (piece : ℕ → List �
   -- nothing stands at a number that was not heard
   pub bare : (n : ℕ) → has s.heard n ≡ 0 → piece n ≡ []
   -- a stop packet that the summary has was heard, with that number and length
-  pub ended : (z : Last) → s.stop ≡ Some z → SomeIn ps (λ a. (a.stop ≡ true) × (a.number ≡ z.number) × (length a.body ≡ z.length))
+  pub ended : ForSome s.stop (λ z. SomeIn ps (λ a. (a.stop ≡ true) × (a.number ≡ z.number) × (length a.body ≡ z.length)))
   -- if the summary has none, no stop packet was heard
-  pub endless : s.stop ≡ None → (a : FragmentValue) → In a ps → a.stop ≡ false
+  pub endless : ForNone s.stop ((a : FragmentValue) → In a ps → a.stop ≡ false)
   -- a count that the summary has was said by a packet
-  pub said : 0 < s.count → SomeIn ps (λ a. a.count ≡ s.count)
+  pub said : ForSome s.count (λ c. SomeIn ps (λ a. (0 < a.count) × (a.count ≡ c)))
   -- if the summary has none, no packet said a count
-  pub unsaid : s.count ≡ 0 → (a : FragmentValue) → In a ps → a.count ≡ 0
+  pub unsaid : ForNone s.count ((a : FragmentValue) → In a ps → a.count ≡ 0)
   -- a length that the summary has is the length of a packet that is not a stop packet
-  pub long : (l : ℕ) → s.length ≡ Some l → SomeIn ps (λ a. (a.stop ≡ false) × (length a.body ≡ l))
+  pub long : ForSome s.length (λ l. SomeIn ps (λ a. (a.stop ≡ false) × (length a.body ≡ l)))
   -- if the summary has none, only stop packets were heard
-  pub short : s.length ≡ None → (a : FragmentValue) → In a ps → a.stop ≡ true
+  pub short : ForNone s.length ((a : FragmentValue) → In a ps → a.stop ≡ true)
+
+-- P holds of whatever packets were heard to make the summary s, where their bodies are these pieces
+abbrev pub OfHeardAt : Summary → (ℕ → List ℕ) → (List FragmentValue → Type 0) → Type 0
+OfHeardAt s piece P = (ps : List FragmentValue) → Open ps s piece → P ps
+
+-- P holds of whatever packets were heard to make the summary s, and of their pieces
+abbrev pub OfHeard : Summary → (List FragmentValue → (ℕ → List ℕ) → Type 0) → Type 0
+OfHeard s P = (ps : List FragmentValue) (piece : ℕ → List ℕ) → Open ps s piece → P ps piece
 
 -- how the packet q is related to the packets ps heard before it:
 -- it contradicts none and its number is new, it contradicts none and its number was heard, or it contradicts one
@@ -48,13 +57,13 @@ pub record PiecePut (q : FragmentValue) (before after : ℕ → List ℕ) : Type
   pub here : after q.number ≡ q.body
   pub there : (n : ℕ) → (n ≢ q.number) → after n ≡ before n
 
--- the value of a fragment whose body is borrowed
+-- the value of a fragment whose body is borrowed: its count is 0 where the fragment says none
 abbrev pub shown : Fragment → FragmentValue
-shown p = record { number = p.number; count = p.count; stop = p.stop; body = p.body.now }
+shown p = record { number = p.number; count = unwrap_or p.count 0; stop = p.stop; body = p.body.now }
 
 -- r says whether some packet heard is so, whatever packets were heard to make the summary s
 abbrev pub Tells : Summary → Bool → (FragmentValue → Type 0) → Type 0
-Tells s r P = (ps : List FragmentValue) (piece : ℕ → List ℕ) → Open ps s piece → Decides r (SomeIn ps P)
+Tells s r P = OfHeard s (λ ps _. IsTrue r ↔ SomeIn ps P)
 
 -- t is the summary s with one packet more, q, which contradicts none of those heard
 pub record Taken (s t : Summary) (q : FragmentValue) : Type 0 where
@@ -69,8 +78,8 @@ pub record StopWith (s : Summary) (q : FragmentValue) (r : Option Last) : Type 0
   pub old : q.stop ≡ false → r ≡ s.stop
 
 -- r is the count of the summary s with q too: what q says if it says one, else that of s
-pub record CountWith (s : Summary) (q : FragmentValue) (r : ℕ) : Type 0 where
-  pub new : 0 < q.count → r ≡ q.count
+pub record CountWith (s : Summary) (q : FragmentValue) (r : Option ℕ) : Type 0 where
+  pub new : 0 < q.count → r ≡ Some q.count
   pub old : q.count ≡ 0 → r ≡ s.count
 
 -- r is the length of the bodies but the stop packet's, of the summary s with q too: that of q if it is no stop packet, else that of s

@@ -1,26 +1,27 @@
 // What is kept of the packets heard of one unique id, apart from their bodies, and what it tells of a new one.
-ghost use Rattle.std.specs.Prelude.{◌≡◌, ℕ, ◌<◌, ◌≤◌, true, false, List, [], Decides, MatchOption};
+ghost use Rattle.std.specs.Prelude.{◌≡◌, ℕ, ◌<◌, ◌≤◌, ◌↔◌, true, false, List, [], IsTrue, MatchOption};
 ghost use Rattle.wire.specs.Limits.{max_packets};
 ghost use Rattle.collection.specs.Fragments.{FragmentValue, SomeIn, Against, OtherPiece, OtherCount, PastStop, OutsideCount, OtherLength, LongerStop, Either, Whole, Complete, Counted, LowestUnheard, PlainLength, no_fragments};
-ghost use Rattle.collection.specs.Kept.{Open, Tells, Related, Taken, StopWith, CountWith, LengthWith, shown};
+ghost use Rattle.collection.specs.Kept.{Open, OfHeard, OfHeardAt, Tells, Related, Taken, StopWith, CountWith, LengthWith, shown};
 
 use crate::fragment::Fragment;
 use numbers::NumberSet;
 use shelf::Shelf;
 
 /// What is kept of the packets heard of one unique id, apart from their bodies.
-#[derive(Clone, Copy)]
+// What holds of it hangs on those packets and their bodies too (`Open`): no ghost field and no Model can say it.
+#[derive(Clone, Copy, Debug, PartialEq, Eq)]
 pub struct Summary {
     heard: NumberSet,
     stop: Option<Last>,
-    // how many packets the message has, or 0 if no packet said it
-    count: u8,
+    // how many packets the message has, if a packet said it
+    count: Option<u8>,
     // the length of each body that is not the stop packet's, if one was heard
     length: Option<u16>,
 }
 
 /// How a packet is related to the packets heard of its unique id.
-#[derive(Clone, Copy)]
+#[derive(Clone, Copy, Debug, PartialEq, Eq)]
 pub enum Relation {
     /// It contradicts none of them, and its number was not heard.
     New,
@@ -31,14 +32,14 @@ pub enum Relation {
 }
 
 /// A whole message: how many pieces it has, and how many bytes.
-#[derive(Clone, Copy)]
+#[derive(Clone, Copy, Debug, PartialEq, Eq)]
 pub struct Extent {
     pub pieces: u8,
     pub length: usize,
 }
 
 // The stop packet that was heard: its number, and the length of its body.
-#[derive(Clone, Copy)]
+#[derive(Clone, Copy, Debug, PartialEq, Eq)]
 struct Last {
     number: u8,
     length: u16,
@@ -46,20 +47,23 @@ struct Last {
 
 impl Summary {
     /// The summary of no packet.
+    // No Default stands beside it: `empty` says what the summary is of, and nothing takes a Default.
     pub fn empty() -> Self
         ensures { (piece : ℕ → List ℕ) → ((n : ℕ) → piece n ≡ []) → Open no_fragments result piece }
     {
         Summary {
             heard: NumberSet::empty(),
             stop: None,
-            count: 0,
+            count: None,
             length: None,
         }
     }
 
     /// How the fragment is related to the packets heard, whose bodies the shelf holds at the slot, each at its number.
+    // Shelf and slot stay parameters: each caller has them apart, and would build a struct of them for this one call.
     pub fn relate<S: Shelf>(self, shelf: &S, slot: usize, packet: Fragment) -> Relation
-        ensures { (ps : List FragmentValue) → Open ps self (S.Shelf.piece shelf.now slot) → Related ps (shown packet.entry) result }
+        ensures { OfHeardAt self (S.Shelf.piece shelf.now slot)
+            (λ ps. Related ps (shown packet.entry) result) }
     {
         if self.contradicts(shelf, slot, packet) {
             return Relation::Contradicts;
@@ -84,11 +88,10 @@ impl Summary {
 
     /// The extent of the message, if the packets heard make it whole.
     pub fn whole(self) -> Option<Extent>
-        ensures { (ps : List FragmentValue) (piece : ℕ → List ℕ) → Open ps self piece → MatchOption result (Whole ps → ⊥) (λ x. Complete ps piece x.pieces x.length) }
+        ensures { OfHeard self (λ ps piece.
+            MatchOption result (Whole ps → ⊥) (λ x. Complete ps piece x.pieces x.length)) }
     {
-        let Some(last) = self.stop else {
-            return None;
-        };
+        let last = self.stop?;
         if self.heard.lowest_absent() <= last.number as u32 {
             return None;
         }
@@ -101,21 +104,22 @@ impl Summary {
 
     /// How many packet numbers were heard.
     pub fn heard_count(self) -> u32
-        ensures { (ps : List FragmentValue) (piece : ℕ → List ℕ) → Open ps self piece → Counted ps max_packets result }
+        ensures { OfHeard self (λ ps _. Counted ps max_packets result) }
     {
         self.heard.count()
     }
 
     /// The lowest packet number that was not heard, or `MAX_PACKETS` of `wire::limits` if all were.
     pub fn lowest_unheard(self) -> u32
-        ensures { (ps : List FragmentValue) (piece : ℕ → List ℕ) → Open ps self piece → LowestUnheard ps result }
+        ensures { OfHeard self (λ ps _. LowestUnheard ps result) }
     {
         self.heard.lowest_absent()
     }
 
     // Does a packet heard contradict this one?
     fn contradicts<S: Shelf>(self, shelf: &S, slot: usize, packet: Fragment) -> bool
-        ensures { (ps : List FragmentValue) → Open ps self (S.Shelf.piece shelf.now slot) → Decides result (Against ps (shown packet.entry)) }
+        ensures { OfHeardAt self (S.Shelf.piece shelf.now slot)
+            (λ ps. IsTrue result ↔ Against ps (shown packet.entry)) }
     {
         self.other_piece(shelf, slot, packet)
             | self.other_count(packet)
@@ -127,7 +131,8 @@ impl Summary {
 
     // Was a packet of the same number heard, with another body or another stop flag?
     fn other_piece<S: Shelf>(self, shelf: &S, slot: usize, packet: Fragment) -> bool
-        ensures { (ps : List FragmentValue) → Open ps self (S.Shelf.piece shelf.now slot) → Decides result (SomeIn ps (OtherPiece (shown packet.entry))) }
+        ensures { OfHeardAt self (S.Shelf.piece shelf.now slot)
+            (λ ps. IsTrue result ↔ SomeIn ps (OtherPiece (shown packet.entry))) }
     {
         if !self.heard.contains(packet.number) {
             return false;
@@ -141,7 +146,9 @@ impl Summary {
     fn other_count(self, packet: Fragment) -> bool
         ensures { Tells self result (OtherCount (shown packet.entry)) }
     {
-        packet.count > 0 && self.count > 0 && packet.count != self.count
+        self.count
+            .zip(packet.count)
+            .is_some_and(|(said, says)| said != says)
     }
 
     // Is the packet past a stop packet heard, or one heard past this one?
@@ -169,29 +176,30 @@ impl Summary {
     fn outside_said(self, packet: Fragment) -> bool
         ensures { Tells self result (λ a. OutsideCount a (shown packet.entry)) }
     {
-        self.count > 0
-            && (packet.number >= self.count || packet.stop != (packet.number + 1 == self.count))
+        let end = packet.number + 1;
+        self.count
+            .is_some_and(|count| end > count || packet.stop != (end == count))
     }
 
     // Is a packet heard outside the count that this one says?
     fn outside_new(self, packet: Fragment) -> bool
         ensures { Tells self result (OutsideCount (shown packet.entry)) }
     {
-        if packet.count == 0 {
+        let Some(count) = packet.count else {
             return false;
-        }
-        let end = packet.count - 1;
-        self.reaches(packet.count) | self.stops_below(end) | self.goes_on_at(end)
+        };
+        let end = count - 1;
+        self.reaches(count) | self.stops_below(end) | self.goes_on_at(end)
     }
 
     // Is the packet no stop packet, and of another length than one heard that is none either?
     fn other_length(self, packet: Fragment) -> bool
         ensures { Tells self result (OtherLength (shown packet.entry)) }
     {
-        match self.length {
-            Some(length) => !packet.stop && packet.body.len() != length as usize,
-            None => false,
-        }
+        !packet.stop
+            && self
+                .length
+                .is_some_and(|length| packet.body.len() != length as usize)
     }
 
     // Of this packet and one heard, is one a stop packet, and longer than the other, which is none?
@@ -205,50 +213,41 @@ impl Summary {
     fn longer_new(self, packet: Fragment) -> bool
         ensures { Tells self result (LongerStop (shown packet.entry)) }
     {
-        match self.length {
-            Some(length) => packet.stop && packet.body.len() > length as usize,
-            None => false,
-        }
+        packet.stop
+            && self
+                .length
+                .is_some_and(|length| packet.body.len() > length as usize)
     }
 
     // Is the packet no stop packet, and shorter than the stop packet heard?
     fn longer_heard(self, packet: Fragment) -> bool
         ensures { Tells self result (λ a. LongerStop a (shown packet.entry)) }
     {
-        match self.stop {
-            Some(last) => !packet.stop && last.length as usize > packet.body.len(),
-            None => false,
-        }
+        !packet.stop
+            && self
+                .stop
+                .is_some_and(|last| last.length as usize > packet.body.len())
     }
 
     // Was a stop packet of this number heard?
     fn stops_at(self, n: u8) -> bool
         ensures { Tells self result (λ a. (a.stop ≡ true) × (a.number ≡ n)) }
     {
-        match self.stop {
-            Some(last) => last.number == n,
-            None => false,
-        }
+        self.stop.is_some_and(|last| last.number == n)
     }
 
     // Was a stop packet of a number below this heard?
     fn stops_below(self, n: u8) -> bool
         ensures { Tells self result (λ a. (a.stop ≡ true) × (a.number < n)) }
     {
-        match self.stop {
-            Some(last) => last.number < n,
-            None => false,
-        }
+        self.stop.is_some_and(|last| last.number < n)
     }
 
     // Was a packet of this number or a higher one heard?
     fn reaches(self, n: u8) -> bool
         ensures { Tells self result (λ a. n ≤ a.number) }
     {
-        match self.heard.highest() {
-            Some(top) => top >= n as u32,
-            None => false,
-        }
+        self.heard.highest().is_some_and(|top| top >= n as u32)
     }
 
     // Was a packet of this number heard that is not the stop packet?
@@ -262,23 +261,20 @@ impl Summary {
     fn stop_with(self, packet: Fragment) -> Option<Last>
         ensures { StopWith self (shown packet.entry) result }
     {
-        if packet.stop {
-            return Some(Last {
-                number: packet.number,
-                length: packet.body.len() as u16,
-            });
+        if !packet.stop {
+            return self.stop;
         }
-        self.stop
+        Some(Last {
+            number: packet.number,
+            length: packet.body.len() as u16,
+        })
     }
 
     // The count said, once the packet is heard too.
-    fn count_with(self, packet: Fragment) -> u8
+    fn count_with(self, packet: Fragment) -> Option<u8>
         ensures { CountWith self (shown packet.entry) result }
     {
-        if packet.count > 0 {
-            return packet.count;
-        }
-        self.count
+        packet.count.or(self.count)
     }
 
     // The length of the bodies that are not the stop packet's, once the packet is heard too.
@@ -293,11 +289,8 @@ impl Summary {
 
     // The length of the bodies that are not the stop packet's, if there is one.
     fn plain_length(self) -> u16
-        ensures { (ps : List FragmentValue) (piece : ℕ → List ℕ) → Open ps self piece → PlainLength ps result }
+        ensures { OfHeard self (λ ps _. PlainLength ps result) }
     {
-        match self.length {
-            Some(length) => length,
-            None => 0,
-        }
+        self.length.unwrap_or(0)
     }
 }
