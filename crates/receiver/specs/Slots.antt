@@ -60,7 +60,7 @@ Seat unit p h s piece = ((used s ≡ false) × Bare piece) ⊎ ((id : List ℕ) 
 
 -- what is read past the end of a table
 abbrev pub no_slot : Slot
-no_slot = record { phase = Free; id = []; id_length = 0; age = 0; summary = record { heard = record { bits = 0 }; stop = None; count = 0; length = None } }
+no_slot = record { phase = Free; id = []; id_length = 0; age = 0; summary = record { heard = record { bits = 0 }; stop = None; count = None; length = None } }
 
 abbrev pub at : List Slot → ℕ → Slot
 at slots k = slice_index_or slots k no_slot

@@ -160,7 +160,7 @@ pub(crate) fn fragment_of<'a>(packet: Packet<'a>) -> Fragment<'a>
 {
     Fragment {
         number: packet.number as u8,
-        count: packet.count as u8,
+        count: (packet.count > 0).then_some(packet.count as u8),
         stop: packet.stop,
         body: packet.body,
     }
