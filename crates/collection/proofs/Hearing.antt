@@ -6,7 +6,7 @@ use Rattle.std.specs.Cmp.{booleans_Decides}
 use Rattle.std.proofs.lemmas.Bool.Decides.{Decides-or, Decides-and, Decides-not, Decides-like, Decides-at, Decides-eqb, Decides-ltb, not_from_Decides}
 use Rattle.std.specs.Option.{ForSome, option_zip}
 use Rattle.shelf.specs.Pieces.{HoldsJust}
-use Rattle.collection.specs.Fragments.{FragmentValue, In, SomeIn, Heard, Against, Contradict, OtherPiece, OtherCount, PastStop, OutsideCount, OtherLength, LongerStop, Either}
+use Rattle.collection.specs.Fragments.{FragmentValue, In, SomeIn, Heard, Against, OtherPiece, OtherCount, PastStop, OutsideCount, OtherLength, LongerStop, Either}
 use Rattle.collection.specs.Fragments.Contradict.{other_piece, other_count, past_stop, outside_count, other_length, longer_stop}
 use Rattle.collection.specs.declared.summary.Summary.{Summary}
 use Rattle.collection.specs.Kept.{Open, Tells}
@@ -137,30 +137,21 @@ pub all_told : (ps : List FragmentValue) (q : FragmentValue) (x1 x2 x3 x4 x5 x6 
     → Decides x1 (SomeIn ps (OtherPiece q)) → Decides x2 (SomeIn ps (OtherCount q)) → Decides x3 (SomeIn ps (Either PastStop q))
     → Decides x4 (SomeIn ps (Either OutsideCount q)) → Decides x5 (SomeIn ps (OtherLength q)) → Decides x6 (SomeIn ps (Either LongerStop q))
     → Decides (((((x1 || x2) || x3) || x4) || x5) || x6) (Against ps q)
-all_told ps q x1 x2 x3 x4 x5 x6 d1 d2 d3 d4 d5 d6 =
-    let P2 : FragmentValue → Type 0 = λ a. OtherPiece q a ⊎ OtherCount q a in
-    let P3 : FragmentValue → Type 0 = λ a. P2 a ⊎ Either PastStop q a in
-    let P4 : FragmentValue → Type 0 = λ a. P3 a ⊎ Either OutsideCount q a in
-    let P5 : FragmentValue → Type 0 = λ a. P4 a ⊎ OtherLength q a in
-    let e2 = either_in ps (OtherPiece q) (OtherCount q) x1 x2 d1 d2 in
-    let e3 = either_in ps P2 (Either PastStop q) (x1 || x2) x3 e2 d3 in
-    let e4 = either_in ps P3 (Either OutsideCount q) ((x1 || x2) || x3) x4 e3 d4 in
-    let e5 = either_in ps P4 (OtherLength q) (((x1 || x2) || x3) || x4) x5 e4 d5 in
-    let e6 = either_in ps P5 (Either LongerStop q) ((((x1 || x2) || x3) || x4) || x5) x6 e5 d6 in
-    alike_in ps (λ a. P5 a ⊎ Either LongerStop q a) (Contradict q) (((((x1 || x2) || x3) || x4) || x5) || x6) joined parted e6
+all_told ps q x1 x2 x3 x4 x5 x6 d1 d2 d3 d4 d5 d6 = Decides-like (((((x1 || x2) || x3) || x4) || x5) || x6) joined parted
+    (Decides-or ((((x1 || x2) || x3) || x4) || x5) x6 (Decides-or (((x1 || x2) || x3) || x4) x5 (Decides-or ((x1 || x2) || x3) x4 (Decides-or (x1 || x2) x3 (Decides-or x1 x2 d1 d2) d3) d4) d5) d6)
   where
-    joined : (a : FragmentValue) → (((((OtherPiece q a ⊎ OtherCount q a) ⊎ Either PastStop q a) ⊎ Either OutsideCount q a) ⊎ OtherLength q a) ⊎ Either LongerStop q a) → Contradict q a
-    joined a (inl (inl (inl (inl (inl h))))) = other_piece h
-    joined a (inl (inl (inl (inl (inr h))))) = other_count h
-    joined a (inl (inl (inl (inr h)))) = past_stop h
-    joined a (inl (inl (inr h))) = outside_count h
-    joined a (inl (inr h)) = other_length h
-    joined a (inr h) = longer_stop h
+    joined : (((((SomeIn ps (OtherPiece q) ⊎ SomeIn ps (OtherCount q)) ⊎ SomeIn ps (Either PastStop q)) ⊎ SomeIn ps (Either OutsideCount q)) ⊎ SomeIn ps (OtherLength q)) ⊎ SomeIn ps (Either LongerStop q)) → Against ps q
+    joined (inl (inl (inl (inl (inl (a, i, h)))))) = (a, i, other_piece h)
+    joined (inl (inl (inl (inl (inr (a, i, h)))))) = (a, i, other_count h)
+    joined (inl (inl (inl (inr (a, i, h))))) = (a, i, past_stop h)
+    joined (inl (inl (inr (a, i, h)))) = (a, i, outside_count h)
+    joined (inl (inr (a, i, h))) = (a, i, other_length h)
+    joined (inr (a, i, h)) = (a, i, longer_stop h)
 
-    parted : (a : FragmentValue) → Contradict q a → (((((OtherPiece q a ⊎ OtherCount q a) ⊎ Either PastStop q a) ⊎ Either OutsideCount q a) ⊎ OtherLength q a) ⊎ Either LongerStop q a)
-    parted a (other_piece h) = inl (inl (inl (inl (inl h))))
-    parted a (other_count h) = inl (inl (inl (inl (inr h))))
-    parted a (past_stop h) = inl (inl (inl (inr h)))
-    parted a (outside_count h) = inl (inl (inr h))
-    parted a (other_length h) = inl (inr h)
-    parted a (longer_stop h) = inr h
+    parted : Against ps q → (((((SomeIn ps (OtherPiece q) ⊎ SomeIn ps (OtherCount q)) ⊎ SomeIn ps (Either PastStop q)) ⊎ SomeIn ps (Either OutsideCount q)) ⊎ SomeIn ps (OtherLength q)) ⊎ SomeIn ps (Either LongerStop q))
+    parted (a, i, other_piece h) = inl (inl (inl (inl (inl (a, i, h)))))
+    parted (a, i, other_count h) = inl (inl (inl (inl (inr (a, i, h)))))
+    parted (a, i, past_stop h) = inl (inl (inl (inr (a, i, h))))
+    parted (a, i, outside_count h) = inl (inl (inr (a, i, h)))
+    parted (a, i, other_length h) = inl (inr (a, i, h))
+    parted (a, i, longer_stop h) = inr (a, i, h)

@@ -1,10 +1,6 @@
 -- The packets of one unique id, and what they say together.
-use Rattle.std.specs.Prelude.{◌≡◌, ℕ, zero, suc, ◌+◌, ◌<◌, ◌≤◌, Bool, true, false, ◌⊎◌, List, [], ◌∷◌, ◌++◌, length, ◌≢◌}
+use Rattle.std.specs.Prelude.{◌≡◌, ℕ, zero, suc, ◌+◌, ◌<◌, ◌≤◌, ◌↔◌, Bool, true, false, ◌⊎◌, List, [], ◌∷◌, ◌++◌, length, ◌≢◌}
 use Rattle.wire.specs.Limits.{max_packets, max_piece}
-
--- each holds exactly when the other does
-abbrev pub Exactly : Type 0 → Type 0 → Type 0
-Exactly P Q = (P → Q) × (Q → P)
 
 -- a fragment of a message, which is what a packet says beside its unique id and byte order: its number,
 -- the count of the message's packets or 0 if it says none, whether it is the stop packet, and its body, a piece of the message
@@ -26,7 +22,7 @@ Limits number count size = (number < max_packets) × (count ≤ max_packets) × 
 pub record Ranged (p : FragmentValue) : Type 0 where
   pub limits : Limits p.number p.count (length p.body)
   pub within : 0 < p.count → p.number < p.count
-  pub ends : 0 < p.count → Exactly (p.stop ≡ true) (p.number + 1 ≡ p.count)
+  pub ends : 0 < p.count → (p.stop ≡ true) ↔ (p.number + 1 ≡ p.count)
 
 -- ---- two packets
 
@@ -44,7 +40,7 @@ PastStop a b = (a.stop ≡ true) × (a.number < b.number)
 
 -- a says a count n, and b's number is n or more, or b's stop flag is not set exactly at n - 1
 abbrev pub OutsideCount : FragmentValue → FragmentValue → Type 0
-OutsideCount a b = (0 < a.count) × ((a.count ≤ b.number) ⊎ (Exactly (b.stop ≡ true) (b.number + 1 ≡ a.count) → ⊥))
+OutsideCount a b = (0 < a.count) × ((a.count ≤ b.number) ⊎ (¬ ((b.stop ≡ true) ↔ (b.number + 1 ≡ a.count))))
 
 -- neither is a stop packet, and the bodies differ in length
 abbrev pub OtherLength : FragmentValue → FragmentValue → Type 0

@@ -1,6 +1,6 @@
 -- The packets that a message is sent in.
-use Rattle.std.specs.Prelude.{◌≡◌, ℕ, ◌+◌, ◌*◌, ◌<◌, ◌≤◌, true, ◌⊎◌, List, length, take, drop}
-use Rattle.collection.specs.Fragments.{FragmentValue, Exactly, In, Heard, Contradict, Whole, Message}
+use Rattle.std.specs.Prelude.{◌≡◌, ℕ, ◌+◌, ◌*◌, ◌<◌, ◌≤◌, ◌↔◌, true, ◌⊎◌, List, length, take, drop}
+use Rattle.collection.specs.Fragments.{FragmentValue, In, Heard, Contradict, Whole, Message}
 
 -- the message m is cut into n bodies, each but the last of size bytes, and the last of at least 1 and at most size bytes
 pub record Cut (m : List ℕ) (size n : ℕ) : Type 0 where
@@ -12,7 +12,7 @@ pub record Cut (m : List ℕ) (size n : ℕ) : Type 0 where
 pub record Of (m : List ℕ) (size n : ℕ) (q : FragmentValue) : Type 0 where
   pub placed : q.number < n
   pub body : q.body ≡ take size (drop (q.number * size) m)
-  pub stop : Exactly (q.stop ≡ true) (q.number + 1 ≡ n)
+  pub stop : (q.stop ≡ true) ↔ (q.number + 1 ≡ n)
   pub count : (q.count ≡ 0) ⊎ (q.count ≡ n)
 
 -- packets of one message never contradict, and where every number was heard it is whole with that message

@@ -4,6 +4,7 @@ ghost use Rattle.std.specs.Option.{ForSome};
 ghost use Rattle.collection.specs.Fragments.{Limits};
 
 /// What a packet says of its message beside the unique id and the byte order. The body is borrowed from the datagram.
+// It has no Model: it is Copy, and what `shown` gives of a borrowed body cannot give the borrow back.
 #[derive(Clone, Copy, Debug, PartialEq, Eq)]
 pub struct Fragment<'a> {
     /// The packet's number.

@@ -1,8 +1,8 @@
 -- What is said of packets heard holds or does not.
-use Rattle.std.proofs.Common.{◌≡◌, ℕ, zero, suc, ◌+◌, ◌<◌, ◌≤◌, Bool, true, false, ◌⊎◌, List, [], ◌∷◌, ◌++◌, length, refl, subst, inl, inr, arith}
+use Rattle.std.proofs.Common.{◌≡◌, ℕ, zero, suc, ◌+◌, ◌<◌, ◌≤◌, ◌↔◌, Bool, true, false, ◌⊎◌, List, [], ◌∷◌, ◌++◌, length, refl, subst, inl, inr, arith}
 use Rattle.std.proofs.lemmas.Bool.{true≢false, false≢true, cases_eq, cases_lt}
 use Rattle.wire.specs.Limits.{max_packets}
-use Rattle.collection.specs.Fragments.{FragmentValue, Exactly, OtherPiece, OtherCount, PastStop, OutsideCount, OtherLength, LongerStop, Either, Contradict, In, SomeIn, Heard, Against, Calm, Whole, Joined, Message, Counted, LowestUnheard}
+use Rattle.collection.specs.Fragments.{FragmentValue, OtherPiece, OtherCount, PastStop, OutsideCount, OtherLength, LongerStop, Either, Contradict, In, SomeIn, Heard, Against, Calm, Whole, Joined, Message, Counted, LowestUnheard}
 use Rattle.collection.specs.Fragments.Contradict.{other_piece, other_count, past_stop, outside_count, other_length, longer_stop}
 use Rattle.history.specs.Stays.{Broken}
 use Rattle.history.proofs.Standings.{same_or}
@@ -41,7 +41,7 @@ follows d (inl q) = inl (λ p. q)
 follows (inl p) (inr n) = inr (λ f. n (f p))
 follows (inr m) (inr n) = inl (λ p. absurd (m p))
 
-exactly : {P Q : Type 0} → Decided P → Decided Q → Decided (Exactly P Q)
+exactly : {P Q : Type 0} → Decided P → Decided Q → Decided (P ↔ Q)
 exactly d e = both (follows d e) (follows e d)
 
 pub moved : {P Q : Type 0} → (P → Q) → (Q → P) → Decided P → Decided Q

@@ -26,6 +26,7 @@ impl NumberSet {
     }
 
     /// The set with n too, or the same set if n is no packet number.
+    // Here and in `contains` the bound is named: `checked_shl` would hide it in the width of the word.
     pub fn with(self, n: u8) -> Self
         ensures { Inserted self result n }
     {
@@ -52,6 +53,7 @@ impl NumberSet {
     }
 
     /// The lowest packet number that is not in the set, or `MAX_PACKETS` if all are.
+    // It is no Option: the end of the range is an answer, which callers compare and hand on like any other.
     pub fn lowest_absent(self) -> u32
         ensures { Lowest (has self) max_packets result }
     {
