@@ -261,13 +261,11 @@ impl Summary {
     fn stop_with(self, packet: Fragment) -> Option<Last>
         ensures { StopWith self (shown packet.entry) result }
     {
-        if !packet.stop {
-            return self.stop;
-        }
-        Some(Last {
+        let last = Last {
             number: packet.number,
             length: packet.body.len() as u16,
-        })
+        };
+        packet.stop.then_some(last).or(self.stop)
     }
 
     // The count said, once the packet is heard too.
@@ -281,10 +279,8 @@ impl Summary {
     fn length_with(self, packet: Fragment) -> Option<u16>
         ensures { LengthWith self (shown packet.entry) result }
     {
-        if packet.stop {
-            return self.length;
-        }
-        Some(packet.body.len() as u16)
+        let length = packet.body.len() as u16;
+        (!packet.stop).then_some(length).or(self.length)
     }
 
     // The length of the bodies that are not the stop packet's, if there is one.
