@@ -176,9 +176,9 @@ impl Summary {
     fn outside_said(self, packet: Fragment) -> bool
         ensures { Tells self result (λ a. OutsideCount a (shown packet.entry)) }
     {
-        let end = packet.number + 1;
+        let next = packet.number + 1;
         self.count
-            .is_some_and(|count| end > count || packet.stop != (end == count))
+            .is_some_and(|count| next > count || packet.stop != (next == count))
     }
 
     // Is a packet heard outside the count that this one says?
@@ -196,10 +196,8 @@ impl Summary {
     fn other_length(self, packet: Fragment) -> bool
         ensures { Tells self result (OtherLength (shown packet.entry)) }
     {
-        !packet.stop
-            && self
-                .length
-                .is_some_and(|length| packet.body.len() != length as usize)
+        let size = packet.body.len();
+        !packet.stop && self.length.is_some_and(|length| size != length as usize)
     }
 
     // Of this packet and one heard, is one a stop packet, and longer than the other, which is none?
@@ -213,20 +211,16 @@ impl Summary {
     fn longer_new(self, packet: Fragment) -> bool
         ensures { Tells self result (LongerStop (shown packet.entry)) }
     {
-        packet.stop
-            && self
-                .length
-                .is_some_and(|length| packet.body.len() > length as usize)
+        let size = packet.body.len();
+        packet.stop && self.length.is_some_and(|length| size > length as usize)
     }
 
     // Is the packet no stop packet, and shorter than the stop packet heard?
     fn longer_heard(self, packet: Fragment) -> bool
         ensures { Tells self result (λ a. LongerStop a (shown packet.entry)) }
     {
-        !packet.stop
-            && self
-                .stop
-                .is_some_and(|last| last.length as usize > packet.body.len())
+        let size = packet.body.len();
+        !packet.stop && self.stop.is_some_and(|last| last.length as usize > size)
     }
 
     // Was a stop packet of this number heard?
