@@ -57,7 +57,7 @@ impl NumberSet {
     pub fn lowest_absent(self) -> u32
         ensures { Lowest (has self) max_packets result }
     {
-        self.bits.trailing_ones()
+        (!self.bits).trailing_zeros()
     }
 
     /// The highest number in the set, if there is one.
