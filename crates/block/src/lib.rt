@@ -122,5 +122,5 @@ fn word(block: &[u8], at: usize) -> u16
     requires { at + 2 ≤ length block.now }
     ensures { result ≡ word_at block.now at }
 {
-    ByteOrder::Big.decode_u16([block[at], block[at + 1]])
+    ByteOrder::Big.decode([block[at], block[at + 1]])
 }
