@@ -12,19 +12,9 @@ pub fn inspect(dump: &[u8]) -> Result<usize, Refusal>
     ensures answer { Inspection dump.now result }
     ensures one_change { OnOk result (FailsIfChanged dump.now) }
 {
-    let mut used = 0;
-    for i in 0..dump.len() / BLOCK_LENGTH {
-        let block = &dump[i * BLOCK_LENGTH..i * BLOCK_LENGTH + BLOCK_LENGTH];
-        if !is_lawful(block) {
-            return Err(Refusal {
-                fault: Fault::UnlawfulBlock,
-                place: i,
-                layer: Layer::Block,
-            });
-        }
-        if is_used(block) {
-            used += 1;
-        }
+    let (blocks, _) = dump.as_chunks::<BLOCK_LENGTH>();
+    match blocks.iter().position(|block| !is_lawful(block)) {
+        Some(place) => Err(Layer::Block.refusal(Fault::UnlawfulBlock, place)),
+        None => Ok(blocks.iter().filter(|block| is_used(block)).count()),
     }
-    Ok(used)
 }

@@ -2,7 +2,7 @@
 #![tactic(auto)]
 
 ghost use Rattle.std.specs.Prelude.{◌≡◌, ◌+◌, ◌<◌, ◌≤◌, length, Decides};
-ghost use Rattle.block.specs.Limits.{block_length};
+ghost use Rattle.block.specs.Limits.{block_length, check_start};
 ghost use Rattle.block.specs.Blocks.{Lawful};
 ghost use Rattle.block.specs.Fields.{word_at, ZeroFrom, Sealed, PartFound, FoundLawful};
 ghost use Rattle.block.specs.Dumps.{is_used};
@@ -57,47 +57,46 @@ pub fn is_lawful(block: &[u8]) -> bool
     ensures answer { Decides result (Lawful block.now) }
     ensures one_change { OneChange }
 {
-    is_found_lawful(block)
+    match block.as_array() {
+        Some(block) => is_found_lawful(block),
+        None => false,
+    }
 }
 
-fn is_found_lawful(block: &[u8]) -> bool
+// The same field by field: `Lawful` says which bytes a block is made of, and a reader cannot compare with them all.
+fn is_found_lawful(block: &[u8; BLOCK_LENGTH]) -> bool
     ensures { Decides result (FoundLawful block.now) }
 {
-    if block.len() != BLOCK_LENGTH || !is_sealed(block) {
-        return false;
-    }
-    match block[STATE_AT] {
-        FREE => is_zero_from(block, 0),
-        USED => is_part(block),
-        _ => false,
-    }
+    is_sealed(block)
+        && match block[STATE_AT] {
+            FREE => is_zero_from(block, 0),
+            USED => is_part(block),
+            _ => false,
+        }
 }
 
 // Whether a lawful block is used.
-fn is_used(block: &[u8]) -> bool
-    requires { 0 < length block.now }
+fn is_used(block: &[u8; BLOCK_LENGTH]) -> bool
     ensures { result ≡ is_used block.now }
 {
     block[STATE_AT] == USED
 }
 
-fn is_sealed(block: &[u8]) -> bool
-    requires { length block.now ≡ block_length }
+fn is_sealed(block: &[u8; BLOCK_LENGTH]) -> bool
     ensures { Decides result (Sealed block.now) }
 {
     word(block, CHECK_AT) == crc::check(&block[0..CHECK_AT])
 }
 
 // Whether the bytes before the check are those of one part of a piece.
-fn is_part(block: &[u8]) -> bool
-    requires { length block.now ≡ block_length }
+fn is_part(block: &[u8; BLOCK_LENGTH]) -> bool
     ensures { Decides result (PartFound block.now) }
 {
-    let length = word(block, LENGTH_AT) as usize;
-    let whole = word(block, WHOLE_AT) as usize;
-    let start = block[INDEX_AT] as usize * DATA_LENGTH;
-    (block[SLOT_AT] as usize) < MAX_SLOTS
-        && (block[NUMBER_AT] as u32) < MAX_PACKETS
+    let length = usize::from(word(block, LENGTH_AT));
+    let whole = usize::from(word(block, WHOLE_AT));
+    let start = usize::from(block[INDEX_AT]) * DATA_LENGTH;
+    usize::from(block[SLOT_AT]) < MAX_SLOTS
+        && u32::from(block[NUMBER_AT]) < MAX_PACKETS
         && whole <= MAX_PIECE
         && start < whole
         && length == (whole - start).min(DATA_LENGTH)
@@ -105,21 +104,16 @@ fn is_part(block: &[u8]) -> bool
 }
 
 // Whether the bytes from `at` up to the check are zero.
-fn is_zero_from(block: &[u8], at: usize) -> bool
-    requires { length block.now ≡ block_length }
+fn is_zero_from(block: &[u8; BLOCK_LENGTH], at: usize) -> bool
+    requires { at ≤ check_start }
     ensures { Decides result (ZeroFrom block.now at) }
 {
-    for i in at..CHECK_AT {
-        if block[i] != 0 {
-            return false;
-        }
-    }
-    true
+    block[at..CHECK_AT].iter().all(|byte| *byte == 0)
 }
 
 // The number in the two bytes from `at` on.
-fn word(block: &[u8], at: usize) -> u16
-    requires { at + 2 ≤ length block.now }
+fn word(block: &[u8; BLOCK_LENGTH], at: usize) -> u16
+    requires { at + 2 ≤ block_length }
     ensures { result ≡ word_at block.now at }
 {
     ByteOrder::Big.decode([block[at], block[at + 1]])

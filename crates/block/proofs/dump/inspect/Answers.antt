@@ -1,56 +1,53 @@
-use Rattle.std.proofs.Common.{◌≡◌, true, false, sym, refl, ap, ◌∙◌, subst, add-one, arith, below_more}
-use Rattle.std.proofs.lemmas.Bool.{both_ways}
+use Rattle.std.proofs.Common.{ℕ, ◌≡◌, ◌<◌, Bool, true, false, not, Decides, List, [], length, filter, sym, ap, refl, ◌∙◌, subst, arith, rules, tests}
+use Rattle.std.specs.Simd.{first_chunks}
+use Rattle.std.proofs.lemmas.Bool.{false≢true}
+use Rattle.std.proofs.lemmas.Iterator.{IsFirst-from_position, YieldsList-from_slice}
+use Rattle.std.proofs.lemmas.Iterator.Consumers.{YieldsList-from_filter, count_from_yields_List}
+use Rattle.std.proofs.lemmas.List.Sums.{length-filter}
+use Rattle.block.specs.Limits.{block_length}
 use Rattle.block.specs.Blocks.{Lawful}
-use Rattle.block.specs.Dumps.{block_at, block_count, is_used, used_among, LawfulUpTo}
+use Rattle.block.specs.Dumps.{block_count, is_used, LawfulUpTo, FailsAt}
 use Rattle.block.proofs.Changes.{fails_if_changed}
-use Rattle.block.proofs.Places.{slice_block}
+use Rattle.block.proofs.Places.{chunk_at, used_among_chunks}
 use Rattle.block.proofs.dump.inspect.Goals as goal
-use Rattle.block.proofs.dump.inspect.Goals.{then-is_used, else-is_used}
 
-pub loop-i-init : goal.loop-i-init
-unfolding used_among
-loop-i-init c = (omega arith, (λ i l. absurd (omega arith)), refl)
+-- what the closure's answer says of a block
+lawful_by : (b : Bool) (xs : List ℕ) → Decides b (Lawful xs) → false ≡ not b → Lawful xs
+lawful_by true xs d e = d.0 refl
+lawful_by false xs d e = absurd (false≢true e)
 
-pub returns-then-not-is_lawful : goal.returns-then-not-is_lawful
-returns-then-not-is_lawful c =
+unlawful_by : (b : Bool) (xs : List ℕ) → Lawful xs → Decides b (Lawful xs) → true ≡ not b → ⊥
+unlawful_by true xs h d e = false≢true (sym e)
+unlawful_by false xs h d e = false≢true (d.1 h)
+
+pub returns-in-Some : goal.returns-in-Some
+returns-in-Some c =
     let m = c.args.dump.now in
-    let i = c.loop-i.i in
+    let n = block_count m in
+    let first = IsFirst-from_position _ _ c.position.result (λ x. Lawful x → ⊥) Lawful c.position.ensures.ran (YieldsList-from_slice (first_chunks block_length n m) cc) (λ x q k h. search (rules, unlawful_by)) (λ x q k. search (rules, lawful_by)) in
+    let found = rw c.in-Some.is at first in
+    let within : c.in-Some.place < n = omega (arith, found.0, c.as_chunks.ensures.front_len, ap length c.as_chunks.ensures.front) in
+    let fails : FailsAt m c.in-Some.place = record {
+      within = within;
+      lawful_before = λ i l. subst Lawful (chunk_at n m i [] (omega arith)) (found.2 i [] (omega arith) l);
+      unlawful = λ h. found.1 [] (subst Lawful (sym (chunk_at n m c.in-Some.place [] within)) h);
+    } in
     record {
-      answer = record {
-        number_is = refl;
-        fails = record {
-          within = c.loop-i-test.true;
-          lawful_before = c.loop-i.invariant.1;
-          unlawful = λ h. both_ways c.is_lawful.result c.if-not-is_lawful.true (c.is_lawful.ensures.answer.1 (subst Lawful (sym (slice_block m i)) h));
-        };
-        by_layer = refl;
-      };
+      answer = record { number_is = c.refusal.ensures.number_is; fails = subst (FailsAt m) (sym c.refusal.ensures.place_is) fails; by_layer = c.refusal.ensures.by_layer };
       one_change = tt;
     }
 
-pub loop-i-preserved : goal.loop-i-preserved
-unfolding used_among
-loop-i-preserved c =
+pub returns-in-None : goal.returns-in-None
+returns-in-None c =
     let m = c.args.dump.now in
-    let i = c.loop-i.i in
-    let law : Lawful (block_at m i) = subst Lawful (slice_block m i) (c.is_lawful.ensures.answer.0 c.if-not-is_lawful.false) in
-    let all = below_more (λ k. Lawful (block_at m k)) i c.loop-i.invariant.1 law in
-    let said : c.is_used.result ≡ is_used (block_at m i) = c.is_used.ensures ∙ ap is_used (slice_block m i) in
-    elim c.if-is_used.branch [
-      | then-is_used w ↦
-          let t : is_used (block_at m i) ≡ true = sym said ∙ w.if-is_used.true in
-          (omega (arith, w.used-is), all, simp add-one (rw t (omega (arith, w.used-is))))
-      | else-is_used w ↦
-          let f : is_used (block_at m i) ≡ false = sym said ∙ w.if-is_used.false in
-          (omega (arith, w.used-is), all, simp add-one (rw f (omega (arith, w.used-is))))
-    ]
-
-pub returns : goal.returns
-returns c =
-    let m = c.args.dump.now in
-    let end : c.loop-i.i ≡ block_count m = omega arith in
-    let law : LawfulUpTo m (block_count m) = λ k l. c.loop-i.invariant.1 k (omega arith) in
+    let n = block_count m in
+    let blocks = first_chunks block_length n m in
+    let none = IsFirst-from_position _ _ c.position.result (λ x. Lawful x → ⊥) Lawful c.position.ensures.ran (YieldsList-from_slice blocks cc) (λ x q k h. search (rules, unlawful_by)) (λ x q k. search (rules, lawful_by)) in
+    let lawful = rw c.in-None.is at none in
+    let all : LawfulUpTo m n = λ i l. subst Lawful (chunk_at n m i [] l) (lawful i [] (omega arith) (omega (arith, c.as_chunks.ensures.front_len, ap length c.as_chunks.ensures.front))) in
+    let count : c.count.result ≡ length (filter is_used blocks) =
+    count_from_yields_List c.filter.result _ c.count.ensures.ran (YieldsList-from_filter _ is_used (YieldsList-from_slice blocks cc) c.filter.ensures.closure (λ x b q k. search (rules, tests))) in
     record {
-      answer = record { all_lawful = law; used_are = c.loop-i.invariant.2 ∙ ap (used_among m) end };
-      one_change = fails_if_changed m law;
+      answer = record { all_lawful = all; used_are = count ∙ (length-filter is_used blocks ∙ used_among_chunks n m) };
+      one_change = fails_if_changed m all;
     }
