@@ -29,7 +29,7 @@ one_change xs ys i law ch law' =
           let same : check_of (take check_start xs) ≡ check_of (take check_start ys) =
           sym lx.sealed ∙ omega (arith, low, high) ∙ ly.sealed in
           let at_i : get_or (take check_start ys) i 0 ≡ get_or (take check_start xs) i 0 =
-          check_one (take check_start xs) (take check_start ys) 0xFFFF i (omega arith)
+          check_one (take check_start xs) (take check_start ys) i
           (octets_stretch 0 check_start xs ox) (octets_stretch 0 check_start ys oy) (fx ∙ sym fy)
           (λ k ne. elim (cases_lt k check_start) [
             | inl b ↦ get_or-take check_start ys k 0 b ∙ ch.others k ne ∙ sym (get_or-take check_start xs k 0 b)

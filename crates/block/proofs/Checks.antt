@@ -1,10 +1,10 @@
 -- The check tells bytes apart that differ in one place.
-use Rattle.std.proofs.Common.{◌≡◌, ℕ, zero, suc, ◌+◌, ◌*◌, ◌%◌, ◌<◌, ◌≤◌, leb, List, [], ◌∷◌, length, get_or, sym, refl, ap, ◌∙◌, inl, inr, arith}
+use Rattle.std.proofs.Common.{◌≡◌, ℕ, zero, suc, ◌+◌, ◌*◌, ◌%◌, ◌<◌, ◌≤◌, leb, List, [], ◌∷◌, length, fold, get_or, sym, refl, ap, ◌∙◌, inl, inr, arith}
 use lib.Bits.{bit_xor, xor_assoc, xor_comm, xor_self, xor_zero_r, xor_mod, xor_lt}
 use Rattle.std.proofs.lemmas.List.{ext_get_or}
 use Rattle.std.proofs.lemmas.Bool.{cases_Bool, leb-true, leb-false}
 use Rattle.wire.specs.Numbers.{Octets}
-use Rattle.block.specs.Check.{shifted, shifts, taken_in, check_from}
+use Rattle.block.specs.Check.{shifted, shifts, taken_in, check_of}
 
 xor_back : (a p : ℕ) → bit_xor (bit_xor a p) p ≡ a
 xor_back a p = xor_assoc a p p ∙ ap (bit_xor a) (xor_self p) ∙ xor_zero_r a
@@ -82,32 +82,39 @@ taken_byte r a b l ha hb e =
     omega arith
 
 -- over the same bytes, other states end as other states
-check_state : (xs : List ℕ) (r s : ℕ) → r < 0x10000 → s < 0x10000 → Octets xs → check_from r xs ≡ check_from s xs → r ≡ s
-unfolding check_from
+check_state : (xs : List ℕ) (r s : ℕ) → r < 0x10000 → s < 0x10000 → Octets xs → fold taken_in r xs ≡ fold taken_in s xs → r ≡ s
 check_state [] r s lr ls o e = e
 check_state (x ∷ xs) r s lr ls o e =
     taken_state r s x lr ls (o 0)
     (check_state xs (taken_in r x) (taken_in s x) (taken_lt r x lr (o 0)) (taken_lt s x ls (o 0)) (λ k. o (suc k)) e)
 
--- bytes that differ at most at i and have one check are the same at i
-pub check_one : (xs ys : List ℕ) (r i : ℕ) → r < 0x10000 → Octets xs → Octets ys → length xs ≡ length ys
-    → ((k : ℕ) → (k ≡ i → ⊥) → get_or ys k 0 ≡ get_or xs k 0) → check_from r xs ≡ check_from r ys → get_or ys i 0 ≡ get_or xs i 0
-unfolding check_from
-check_one [] [] r i l ox oy long same e = refl
-check_one [] (y ∷ ys) r i l ox oy long same e = absurd (omega arith)
-check_one (x ∷ xs) [] r i l ox oy long same e = absurd (omega arith)
-check_one (x ∷ xs) (y ∷ ys) r zero l ox oy long same e =
+fold_one : (xs ys : List ℕ) (r i : ℕ) → r < 0x10000 → Octets xs → Octets ys → length xs ≡ length ys
+    → ((k : ℕ) → (k ≡ i → ⊥) → get_or ys k 0 ≡ get_or xs k 0) → fold taken_in r xs ≡ fold taken_in r ys → get_or ys i 0 ≡ get_or xs i 0
+fold_one [] [] r i l ox oy long same e = refl
+fold_one [] (y ∷ ys) r i l ox oy long same e = absurd (omega arith)
+fold_one (x ∷ xs) [] r i l ox oy long same e = absurd (omega arith)
+fold_one (x ∷ xs) (y ∷ ys) r zero l ox oy long same e =
     let rest : ys ≡ xs = ext_get_or 0 ys xs (omega arith) (λ k h. same (suc k) (λ z. omega arith)) in
     let o : Octets xs = λ k. ox (suc k) in
-    let e' : check_from (taken_in r x) xs ≡ check_from (taken_in r y) xs = e ∙ ap (check_from (taken_in r y)) rest in
+    let e' : fold taken_in (taken_in r x) xs ≡ fold taken_in (taken_in r y) xs = e ∙ ap (fold taken_in (taken_in r y)) rest in
     sym (taken_byte r x y l (ox 0) (oy 0) (check_state xs (taken_in r x) (taken_in r y) (taken_lt r x l (ox 0)) (taken_lt r y l (oy 0)) o e'))
-check_one (x ∷ xs) (y ∷ ys) r (suc i) l ox oy long same e =
+fold_one (x ∷ xs) (y ∷ ys) r (suc i) l ox oy long same e =
     let head : y ≡ x = same 0 (λ z. omega arith) in
-    let e' : check_from (taken_in r x) xs ≡ check_from (taken_in r x) ys = e ∙ ap (λ z. check_from (taken_in r z) ys) head in
-    check_one xs ys (taken_in r x) i (taken_lt r x l (ox 0)) (λ k. ox (suc k)) (λ k. oy (suc k)) (omega arith)
+    let e' : fold taken_in (taken_in r x) xs ≡ fold taken_in (taken_in r x) ys = e ∙ ap (λ z. fold taken_in (taken_in r z) ys) head in
+    fold_one xs ys (taken_in r x) i (taken_lt r x l (ox 0)) (λ k. ox (suc k)) (λ k. oy (suc k)) (omega arith)
     (λ k ne. same (suc k) (λ z. ne (omega arith))) e'
 
-pub check_lt : (xs : List ℕ) (r : ℕ) → r < 0x10000 → check_from r xs < 0x10000
-unfolding check_from shifts
-check_lt [] r l = l
-check_lt (x ∷ xs) r l = check_lt xs (taken_in r x) (shifts_lt 7 (shifted (bit_xor r (x * 256))) (shifted_lt (bit_xor r (x * 256))))
+-- bytes that differ at most at i and have one check are the same at i
+pub check_one : (xs ys : List ℕ) (i : ℕ) → Octets xs → Octets ys → length xs ≡ length ys
+    → ((k : ℕ) → (k ≡ i → ⊥) → get_or ys k 0 ≡ get_or xs k 0) → check_of xs ≡ check_of ys → get_or ys i 0 ≡ get_or xs i 0
+unfolding check_of
+check_one xs ys i ox oy long same e = fold_one xs ys 0xFFFF i (omega arith) ox oy long same e
+
+fold_lt : (xs : List ℕ) (r : ℕ) → r < 0x10000 → fold taken_in r xs < 0x10000
+unfolding shifts
+fold_lt [] r l = l
+fold_lt (x ∷ xs) r l = fold_lt xs (taken_in r x) (shifts_lt 7 (shifted (bit_xor r (x * 256))) (shifted_lt (bit_xor r (x * 256))))
+
+pub check_lt : (xs : List ℕ) → check_of xs < 0x10000
+unfolding check_of
+check_lt xs = fold_lt xs 0xFFFF (omega arith)

@@ -105,7 +105,7 @@ lawful_found xs o f =
 sealed_reads : (front : List ℕ) → length front ≡ check_start → Sealed (sealed front)
 sealed_reads front l =
     let n = check_of front in
-    let b = check_lt front 0xFFFF (omega arith) in
+    let b = check_lt front in
     let high : get_or (sealed front) check_start 0 ≡ n / 256 % 256 = get_or-append_right front (digits Big 2 n) check_start check_start 0 l (omega arith) in
     let low : get_or (sealed front) 511 0 ≡ n % 256 = get_or-append_right front (digits Big 2 n) check_start 511 0 l (omega arith) in
     let same : check_of (take check_start (sealed front)) ≡ n = ap check_of (take_at front (digits Big 2 n) check_start l) in

@@ -1,7 +1,7 @@
 -- A byte at a time by a table: the check takes it in as it takes in its bits.
-use Rattle.std.proofs.Common.{◌≡◌, ℕ, zero, suc, ◌+◌, ◌*◌, ◌/◌, ◌%◌, ◌<◌, ◌≤◌, Bool, true, false, cond, T, eqb, leb, List, get_or, sym, refl, ap, ◌∙◌, subst, inl, inr, add-zero, arith, eqb→eq}
+use Rattle.std.proofs.Common.{◌≡◌, ℕ, zero, suc, ◌+◌, ◌*◌, ◌/◌, ◌%◌, ◌<◌, ◌≤◌, Bool, true, false, cond, eqb, leb, List, get_or, sym, refl, ap, ◌∙◌, inl, inr, add-zero, arith}
 use lib.Bits.{bit_xor, xor_assoc, xor_comm, xor_block, xor_shifted, xor_mod, xor_shr, xor_zero_l, xor_zero_r, xor_lt}
-use Rattle.std.proofs.lemmas.Bool.{cases_eq, leb-true, leb-false, le-leb, lt-leb, cases_Bool}
+use Rattle.std.proofs.lemmas.Bool.{leb-true, leb-false, le-leb, lt-leb, eqb-true, cases_Bool, agree_below, agree_below_at}
 use Rattle.block.specs.Check.{shifted, shifts, taken_in, TableRule}
 
 doubled : (a y : ℕ) → bit_xor a y * 2 ≡ bit_xor (a * 2) (y * 2)
@@ -52,34 +52,10 @@ shifts_xor (suc n) a y h =
     let l : y < 0x8000 = omega (arith, twice_up n (y * 2)) in
     ap (shifts n) (shifted_xor a y l) ∙ shifts_xor n (shifted a) (y * 2) h
 
-abbrev pub both : Bool → Bool → Bool
-both true b = b
-both false b = false
-
-both_left : (a b : Bool) → T (both a b) → T a
-both_left true b t = tt
-both_left false b t = t
-
-both_right : (a b : Bool) → T (both a b) → T b
-both_right true b t = t
-both_right false b t = absurd t
-
-abbrev pub every : (ℕ → Bool) → ℕ → Bool
-every f zero = true
-every f (suc n) = both (f n) (every f n)
-
-pub every_below : (f : ℕ → Bool) (n : ℕ) → T (every f n) → (k : ℕ) → k < n → T (f k)
-every_below f zero t k h = absurd (omega arith)
-every_below f (suc n) t k h =
-    elim (cases_eq k n) [
-      | inl e ↦ (let P : ℕ → Type 0 = λ j. T (f j) in subst P (sym e) (both_left (f n) (every f n) t))
-      | inr d ↦ every_below f n (both_right (f n) (every f n) t) k (omega (arith, d))
-    ]
-
 -- the rule of a table is one test that is computed
-pub rule_by_test : (table : List ℕ) → T (every (λ k. eqb (get_or table k 0) (taken_in 0 k)) 256) → TableRule table
+pub rule_by_test : (table : List ℕ) → agree_below (λ k. eqb (get_or table k 0) (taken_in 0 k)) (λ _. true) 256 ≡ true → TableRule table
 unfolding TableRule
-rule_by_test table t k h = eqb→eq _ _ (every_below (λ j. eqb (get_or table j 0) (taken_in 0 j)) 256 t k h)
+rule_by_test table t k h = eqb-true _ _ (agree_below_at (λ j. eqb (get_or table j 0) (taken_in 0 j)) (λ _. true) 256 k t h)
 
 -- the low byte of a state stays where it is while the upper one is looked up
 halves : (r b : ℕ) → bit_xor r (b * 256) ≡ bit_xor (bit_xor (r / 256) b * 256) (r % 256)

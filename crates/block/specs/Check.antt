@@ -1,5 +1,5 @@
 -- The check of bytes: the CRC-16 with the polynomial 0x1021 from 0xFFFF on, bit by bit, nothing reflected or inverted.
-use Rattle.std.specs.Prelude.{◌≡◌, ℕ, zero, suc, ◌*◌, ◌%◌, ◌<◌, cond, List, [], ◌∷◌, bit_xor, nat_le, slice_index}
+use Rattle.std.specs.Prelude.{◌≡◌, ℕ, zero, suc, ◌*◌, ◌%◌, ◌<◌, cond, List, [], ◌∷◌, fold, bit_xor, nat_le, slice_index}
 
 -- one bit goes out at the top, and takes the polynomial along where it is 1
 abbrev pub shifted : ℕ → ℕ
@@ -19,12 +19,8 @@ unfoldable pub TableRule : List ℕ → Type 0
 TableRule table = (k : ℕ) → k < 256 → slice_index table k ≡ taken_in 0 k
 
 -- all bytes come in, the first one first
-unfoldable pub check_from : ℕ → List ℕ → ℕ
-check_from r [] = r
-check_from r (b ∷ bs) = check_from (taken_in r b) bs
-
-abbrev pub check_of : List ℕ → ℕ
-check_of xs = check_from 0xFFFF xs
+unfoldable pub check_of : List ℕ → ℕ
+check_of xs = fold taken_in 0xFFFF xs
 
 -- the value that is published for these parameters, of the text 123456789
 abbrev pub PublishedCheck : Type 0

@@ -12,18 +12,22 @@ pub fn check(bytes: &[u8]) -> u16
     ensures answer { result ≡ check_of bytes.now }
     ensures published { PublishedCheck }
 {
-    let mut state = START;
-    for byte in bytes {
-        state = take_in(&TABLE, state, *byte);
-    }
-    state
+    bytes
+        .iter()
+        .fold(START, |state, byte| take_in(state, *byte))
 }
 
 // The state after one byte more: the table has what becomes of the upper byte, and the lower one moves up.
-fn take_in(table: &[u16; 256], state: u16, byte: u8) -> u16
-    requires { TableRule table.now }
+fn take_in(state: u16, byte: u8) -> u16
     ensures { result ≡ taken_in state byte }
 {
-    let index = (state >> 8) ^ byte as u16;
-    table[index as usize] ^ (state << 8)
+    let index = (state >> 8) ^ u16::from(byte);
+    table()[usize::from(index)] ^ (state << 8)
+}
+
+// The table, with what it says of each byte.
+fn table() -> &'static [u16; 256]
+    ensures { TableRule result.now }
+{
+    &TABLE
 }
