@@ -1,6 +1,7 @@
 -- A block is lawful just where its fields are found so.
 use Rattle.std.proofs.Common.{◌≡◌, ℕ, ◌+◌, ◌-◌, ◌/◌, ◌%◌, ◌<◌, ◌≤◌, List, [], ◌∷◌, ◌++◌, length, get_or, take, drop, replicate, sym, refl, ap, ◌∙◌, subst, inl, inr, arith}
-use Rattle.std.proofs.lemmas.List.{ext_get_or, length-append, length-drop, length-replicate, length-take-le, get_or-take, get_or-drop, get_or-replicate, get_or_append_left, get_or-append_right, take_at, take-take, take_all, drop-take, take-append-drop}
+use Rattle.std.proofs.lemmas.List.{ext_get_or, length-append, length-drop, length-replicate, length-take-le, get_or-take, get_or-drop, get_or-replicate, get_or_append_left, get_or-append_right, take_at, take_all, take-append-drop}
+use Rattle.std.proofs.Math.Seq.{take-add}
 use Rattle.std.proofs.lemmas.Bool.{cases_eq}
 use Rattle.wire.specs.declared.order.ByteOrder.TheVariants.{Big}
 use Rattle.wire.specs.Numbers.{Octets, digits}
@@ -12,12 +13,6 @@ use Rattle.block.specs.Blocks.{Part, InRange, free_front, used_front, sealed, La
 use Rattle.block.specs.Fields.{word_at, slot_in, number_in, index_in, length_in, whole_in, ZeroFrom, Sealed, PartFound, FoundLawful}
 use Rattle.block.proofs.Checks.{check_lt}
 use Rattle.block.proofs.Octets.{octets_none, octets_more, octets_append, octets_zeros}
-
--- the first m + n of a list are its first m and the n after them
-take_both : (m n : ℕ) (xs : List ℕ) → take (m + n) xs ≡ take m xs ++ take n (drop m xs)
-take_both m n xs =
-    sym (take-append-drop m (take (m + n) xs))
-    ∙ (ap (λ t. t ++ drop m (take (m + n) xs)) (take-take m (m + n) xs (omega arith)) ∙ ap (λ t. take m xs ++ t) (drop-take m n xs))
 
 -- the bytes of the number in two bytes are these bytes
 word_digits : (xs : List ℕ) (k : ℕ) → Octets xs → digits Big 2 (word_at xs k) ≡ get_or xs k 0 ∷ get_or xs (k + 1) 0 ∷ []
@@ -67,9 +62,9 @@ used_found xs o l u f =
     zeros_are (take (502 - n) (drop n body)) (502 - n) (length-take-le (502 - n) (drop n body) (omega arith))
     (λ i b. get_or-take (502 - n) (drop n body) i 0 b ∙ (get_or-drop n body i 0 ∙ (get_or-drop 8 xs (n + i) 0 ∙ f.rest_zero (8 + (n + i)) (omega arith) (omega arith)))) in
     let rest : take 502 body ≡ take n body ++ replicate (502 - n) 0 =
-    ap (λ t. take t body) (sym cut) ∙ (take_both n (502 - n) body ∙ ap (λ t. take n body ++ t) zeros) in
+    ap (λ t. take t body) (sym cut) ∙ (take-add n (502 - n) body ∙ ap (λ t. take n body ++ t) zeros) in
     let split : take check_start xs ≡ elements 8 0 xs ++ (take n body ++ replicate (502 - n) 0) =
-    take_both 8 502 xs ∙ (ap (λ t. t ++ take 502 body) fields ∙ ap (λ t. elements 8 0 xs ++ t) rest) in
+    take-add 8 502 xs ∙ (ap (λ t. t ++ take 502 body) fields ∙ ap (λ t. elements 8 0 xs ++ t) rest) in
     let o4 = o 4 in
     let o5 = o 5 in
     let o6 = o 6 in

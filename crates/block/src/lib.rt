@@ -1,7 +1,7 @@
 // The block: 512 bytes that hold one part of a piece, or nothing, with their check. `specs/Blocks.antt` has the format.
 #![tactic(auto)]
 
-ghost use Rattle.std.specs.Prelude.{◌≡◌, ◌+◌, ◌<◌, ◌≤◌, length, Decides};
+ghost use Rattle.std.specs.Prelude.{◌≡◌, ◌↔◌, ◌+◌, ◌≤◌, IsTrue};
 ghost use Rattle.block.specs.Limits.{block_length, check_start};
 ghost use Rattle.block.specs.Blocks.{Lawful};
 ghost use Rattle.block.specs.Fields.{word_at, ZeroFrom, Sealed, PartFound, FoundLawful};
@@ -45,6 +45,7 @@ pub const DATA_AT: usize = 8;
 /// Where the check of the bytes before stands.
 pub const CHECK_AT: usize = 510;
 
+// Bytes of the format and no enum: its `TryFrom` would be the match of `is_found_lawful` once more.
 /// The state of a block that holds nothing.
 pub const FREE: u8 = 0;
 
@@ -54,7 +55,7 @@ pub const USED: u8 = 1;
 /// Whether these are the bytes of a lawful block.
 /// No two lawful blocks differ in just one byte.
 pub fn is_lawful(block: &[u8]) -> bool
-    ensures answer { Decides result (Lawful block.now) }
+    ensures answer { IsTrue result ↔ Lawful block.now }
     ensures one_change { OneChange }
 {
     match block.as_array() {
@@ -63,9 +64,9 @@ pub fn is_lawful(block: &[u8]) -> bool
     }
 }
 
-// The same field by field: `Lawful` says which bytes a block is made of, and a reader cannot compare with them all.
+// The same field by field: `Lawful` has a block's bytes by what it says, which a reader has yet to find.
 fn is_found_lawful(block: &[u8; BLOCK_LENGTH]) -> bool
-    ensures { Decides result (FoundLawful block.now) }
+    ensures { IsTrue result ↔ FoundLawful block.now }
 {
     is_sealed(block)
         && match block[STATE_AT] {
@@ -83,14 +84,14 @@ fn is_used(block: &[u8; BLOCK_LENGTH]) -> bool
 }
 
 fn is_sealed(block: &[u8; BLOCK_LENGTH]) -> bool
-    ensures { Decides result (Sealed block.now) }
+    ensures { IsTrue result ↔ Sealed block.now }
 {
     word(block, CHECK_AT) == crc::check(&block[0..CHECK_AT])
 }
 
 // Whether the bytes before the check are those of one part of a piece.
 fn is_part(block: &[u8; BLOCK_LENGTH]) -> bool
-    ensures { Decides result (PartFound block.now) }
+    ensures { IsTrue result ↔ PartFound block.now }
 {
     let length = usize::from(word(block, LENGTH_AT));
     let whole = usize::from(word(block, WHOLE_AT));
@@ -106,7 +107,7 @@ fn is_part(block: &[u8; BLOCK_LENGTH]) -> bool
 // Whether the bytes from `at` up to the check are zero.
 fn is_zero_from(block: &[u8; BLOCK_LENGTH], at: usize) -> bool
     requires { at ≤ check_start }
-    ensures { Decides result (ZeroFrom block.now at) }
+    ensures { IsTrue result ↔ ZeroFrom block.now at }
 {
     block[at..CHECK_AT].iter().all(|byte| *byte == 0)
 }

@@ -4,16 +4,13 @@
 use block::dump::inspect;
 use std::io;
 use std::io::Read;
+use wire::refusal::Refusal;
 
 fn main(rt: HostRuntime) -> io::Result<()> {
     let mut dump = Vec::new(rt.alloc());
     rt.stdin().read_to_end(&mut dump)?;
     match inspect(dump.as_slice()) {
         Ok(used) => println!(rt; "used {used}"),
-        Err(refusal) => {
-            let number = refusal.fault.number();
-            let place = refusal.place;
-            println!(rt; "refused {number} block {place}")
-        }
+        Err(Refusal { fault, place, .. }) => println!(rt; "refused {fault} block {place}"),
     }
 }

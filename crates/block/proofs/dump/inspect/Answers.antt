@@ -1,6 +1,6 @@
-use Rattle.std.proofs.Common.{ℕ, ◌≡◌, ◌<◌, Bool, true, false, not, Decides, List, [], length, filter, sym, ap, ◌∙◌, subst, arith, rules, tests}
+use Rattle.std.proofs.Common.{ℕ, ◌≡◌, ◌<◌, Bool, true, false, not, ◌↔◌, List, [], length, filter, sym, ap, ◌∙◌, subst, arith, rules, tests}
 use Rattle.std.specs.Simd.{first_chunks}
-use Rattle.std.proofs.lemmas.Bool.{both_ways, not-true, not-false}
+use Rattle.std.proofs.lemmas.Bool.{iff_false, not-true, not-false}
 use Rattle.std.proofs.lemmas.Iterator.{IsFirst-from_position, YieldsList-from_slice}
 use Rattle.std.proofs.lemmas.Iterator.Consumers.{YieldsList-from_filter, count_from_yields_List}
 use Rattle.std.proofs.lemmas.List.Sums.{length-filter}
@@ -12,11 +12,11 @@ use Rattle.block.proofs.Places.{chunk_at, used_among_chunks}
 use Rattle.block.proofs.dump.inspect.Goals as goal
 
 -- what the closure's answer says of a block
-lawful_by : (b : Bool) (xs : List ℕ) → Decides b (Lawful xs) → false ≡ not b → Lawful xs
+lawful_by : (b : Bool) (xs : List ℕ) → ((b ≡ true) ↔ Lawful xs) → false ≡ not b → Lawful xs
 lawful_by b xs d e = d.0 (not-false b (sym e))
 
-unlawful_by : (b : Bool) (xs : List ℕ) → Lawful xs → Decides b (Lawful xs) → true ≡ not b → ⊥
-unlawful_by b xs h d e = both_ways b (not-true b (sym e)) (d.1 h)
+unlawful_by : (b : Bool) (xs : List ℕ) → Lawful xs → ((b ≡ true) ↔ Lawful xs) → true ≡ not b → ⊥
+unlawful_by b xs h d e = iff_false d (not-true b (sym e)) h
 
 pub returns-in-Some : goal.returns-in-Some
 returns-in-Some c =
