@@ -7,17 +7,17 @@ use Rattle.block.specs.Fields.{ZeroFrom}
 use Rattle.block.proofs.is_zero_from.Goals as goal
 
 -- ys are the bytes of xs from `at` up to the check
-Decides-zero : (r : Bool) (xs ys : List ℕ) (at : ℕ) → at + length ys ≡ check_start
+zero_from_decided : (r : Bool) (xs ys : List ℕ) (at : ℕ) → at + length ys ≡ check_start
     → ((k : ℕ) → k < length ys → get_or ys k 0 ≡ get_or xs (at + k) 0)
     → MatchBool r (AllWithin (λ x. x ≡ 0) ys 0 (length ys)) ((k : ℕ) × (k < length ys) × HoldsAt (λ x. x ≢ 0) ys k)
     → Decides r (ZeroFrom xs at)
-Decides-zero true xs ys at l e m = (
+zero_from_decided true xs ys at l e m = (
   λ _ i a b.
       let here : at + (i - at) ≡ i = omega arith in
       ap (λ j. get_or xs j 0) (sym here) ∙ sym (e (i - at) (omega arith)) ∙ m (i - at) 0 (omega arith) (omega arith),
   λ _. refl,
 )
-Decides-zero false xs ys at l e m =
+zero_from_decided false xs ys at l e m =
     (λ f. absurd (false≢true f), λ z. absurd (m.2 0 (e m.0 m.1 ∙ z (at + m.0) (omega arith) (omega (arith, m.1)))))
 
 pub returns : goal.returns
@@ -26,5 +26,5 @@ returns c =
     let at = c.args.at in
     let ys = take (check_start - at) (drop at xs) in
     let long : length ys ≡ check_start - at = search rules in
-    Decides-zero _ xs ys at (omega arith) (λ k l. get_or-take (check_start - at) (drop at xs) k 0 (omega arith) ∙ get_or-drop at xs k 0)
+    zero_from_decided _ xs ys at (omega arith) (λ k l. get_or-take (check_start - at) (drop at xs) k 0 (omega arith) ∙ get_or-drop at xs k 0)
     (cases_from_all _ _ _ (λ x. x ≡ 0) (λ x. x ≢ 0) c.all.ensures.ran (YieldsList-from_slice ys cc) (λ x q k. search (rules, tests)) (λ x q k. search (rules, tests)))
