@@ -1,9 +1,7 @@
-use Rattle.std.proofs.Common.{ℕ, ◌≡◌, ◌<◌, Bool, true, false, not, ◌↔◌, List, [], length, filter, sym, ap, ◌∙◌, subst, arith, rules, tests}
+use Rattle.std.proofs.Common.{ℕ, ◌≡◌, ◌<◌, Bool, true, false, not, ◌↔◌, List, [], length, count_by, sym, ap, ◌∙◌, subst, arith, rules}
 use Rattle.std.specs.Simd.{first_chunks}
 use Rattle.std.proofs.lemmas.Bool.{iff_false, not-true, not-false}
 use Rattle.std.proofs.lemmas.Iterator.{IsFirst-from_position, YieldsList-from_slice}
-use Rattle.std.proofs.lemmas.Iterator.Consumers.{YieldsList-from_filter, count_from_yields_List}
-use Rattle.std.proofs.lemmas.List.Sums.{length-filter}
 use Rattle.block.specs.Limits.{block_length}
 use Rattle.block.specs.Blocks.{Lawful}
 use Rattle.block.specs.Dumps.{block_count, is_used, LawfulUpTo, FailsAt}
@@ -43,9 +41,8 @@ returns-in-None c =
     let none = IsFirst-from_position _ _ c.position.result (λ x. Lawful x → ⊥) Lawful c.position.ensures.ran (YieldsList-from_slice blocks cc) (λ x q k h. search (rules, unlawful_by)) (λ x q k. search (rules, lawful_by)) in
     let lawful = rw c.in-None.is at none in
     let all : LawfulUpTo m n = λ i l. subst Lawful (chunk_at n m i [] l) (lawful i [] (omega arith) (omega (arith, c.as_chunks.ensures.front_len, ap length c.as_chunks.ensures.front))) in
-    let count : c.count.result ≡ length (filter is_used blocks) =
-    count_from_yields_List c.filter.result _ c.count.ensures.ran (YieldsList-from_filter _ is_used (YieldsList-from_slice blocks cc) c.filter.ensures.closure (λ x b q k. search (rules, tests))) in
+    let count : c.count.result ≡ count_by is_used (first_chunks block_length n m) = search rules in
     record {
-      answer = record { all_lawful = all; used_are = count ∙ (length-filter is_used blocks ∙ used_among_chunks n m) };
+      answer = record { all_lawful = all; used_are = count ∙ used_among_chunks n m };
       one_change = fails_if_changed m all;
     }
