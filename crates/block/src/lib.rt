@@ -64,7 +64,7 @@ pub fn is_lawful(block: &[u8]) -> bool
     }
 }
 
-// The same field by field: `Lawful` has a block's bytes by what it says, which a reader has yet to find.
+// The same field by field: `Lawful` makes a block's bytes of what it says, which a reader has to find first.
 fn is_found_lawful(block: &[u8; BLOCK_LENGTH]) -> bool
     ensures { IsTrue result ↔ FoundLawful block.now }
 {
