@@ -1,13 +1,11 @@
 -- The length at the start of a record.
-use Rattle.std.proofs.Common.{◌≡◌, ℕ, ◌+◌, ◌-◌, ◌^◌, ◌<◌, ◌≤◌, List, [], ◌∷◌, ◌++◌, length, get_or, take, drop, sym, refl, ap, ◌∙◌, subst, ⊎_elim, arith}
-use Rattle.std.specs.List.{flat_map}
-use Rattle.std.proofs.lemmas.List.{append_assoc, length-append, length-drop, length-take-le, take_at, take-append-drop, drop_at, length_push, flat_map_more, get_or_append_left, get_or_push}
-use Rattle.std.proofs.lemmas.Bool.{cases_lt}
+use Rattle.std.proofs.Common.{◌≡◌, ℕ, ◌+◌, ◌^◌, ◌<◌, ◌≤◌, List, ◌++◌, length, take, drop, sym, ap, ◌∙◌, arith}
+use Rattle.std.proofs.lemmas.List.{append_assoc, length-append, length-drop, length-take-le, take_at, take-append-drop}
 use Rattle.wire.specs.declared.order.ByteOrder.TheVariants.{Big}
 use Rattle.wire.specs.Numbers.{Octets, digits, number_of}
 use Rattle.wire.proofs.Fronts.{elements, take_elements}
 use Rattle.wire.proofs.Numbers.{length_digits, number_digits, digits_number, octets_stretch}
-use Rattle.records.specs.Records.{record_of, Begins, Cut, Walked}
+use Rattle.records.specs.Records.{Begins}
 
 -- the length as the reader takes it from the first two bytes
 abbrev pub stated : List ℕ → ℕ
@@ -44,44 +42,3 @@ begins_same {input} {xs} {ys} {rest} {more} p q b = rw (p, q) b
 -- what follows a record is shorter than the input
 pub begins_shorter : {input xs rest : List ℕ} → Begins input xs rest → length rest < length input
 begins_shorter {input} {xs} {rest} b = let l = (begins_stated input xs rest b).1 in omega arith
-
--- a walk over records: those that were passed, and what is left
-pub record Passed (input : List ℕ) (n : ℕ) (rest : List ℕ) : Type 0 where
-  pub held : List (List ℕ)
-  pub many : length held ≡ n
-  pub counted : (i : ℕ) → i < length held → length (get_or held i []) < 2 ^ 16
-  pub in_a_row : input ≡ flat_map record_of held ++ rest
-
-pub passed_none : (input : List ℕ) → Passed input 0 input
-passed_none input = record { held = []; many = refl; counted = λ i h. absurd (omega arith); in_a_row = refl }
-
-pub passed_more : {input rest xs after : List ℕ} {n : ℕ} → Passed input n rest → Begins rest xs after → Passed input (n + 1) after
-passed_more {input} {rest} {xs} {after} {n} p b =
-    let front = flat_map record_of p.held in
-    let l = length_push p.held xs in
-    record {
-      held = p.held ++ xs ∷ [];
-      many = l ∙ ap (λ k. k + 1) p.many;
-      counted = λ i h. ⊎_elim
-          (λ k. rw (get_or_append_left p.held (xs ∷ []) [] i k) (p.counted i k))
-          (λ (k : length p.held ≤ i). let e : length p.held ≡ i = omega arith in rw (get_or_push p.held xs [] i e) b.counted)
-          (cases_lt i (length p.held));
-      in_a_row =
-          p.in_a_row ∙ (ap (λ t. front ++ t) b.bytes_are ∙ (sym (append_assoc front (record_of xs) after)
-          ∙ ap (λ t. t ++ after) (flat_map_more record_of [] p.held xs)));
-    }
-
-pub passed_walked : {input rest : List ℕ} {n : ℕ} → Passed input n rest → Cut rest → Walked input n (length input - length rest)
-passed_walked {input} {rest} {n} p c =
-    let front = flat_map record_of p.held in
-    let used = length input - length rest in
-    let l : length input ≡ length front + length rest = ap length p.in_a_row ∙ length-append front rest in
-    let d : drop used input ≡ rest = ap (drop used) p.in_a_row ∙ drop_at front rest used (omega arith) in
-    record {
-      held = p.held;
-      many = p.many;
-      counted = p.counted;
-      used_fits = omega arith;
-      in_a_row = ap (take used) p.in_a_row ∙ take_at front rest used (omega arith);
-      cut_after = subst Cut (sym d) c;
-    }

@@ -26,3 +26,8 @@ pub record Walked (input : List ℕ) (n used : ℕ) : Type 0 where
   pub used_fits : used ≤ length input
   pub in_a_row : take used input ≡ flat_map record_of held
   pub cut_after : Cut (drop used input)
+
+-- the input begins with the records that hold these, one after the other, and goes on with the rest
+pub record Passed (input : List ℕ) (held : List (List ℕ)) (rest : List ℕ) : Type 0 where
+  pub counted : (i : ℕ) → i < length held → length (slice_index_or held i []) < 2 ^ 16
+  pub in_a_row : input ≡ flat_map record_of held ++ rest

@@ -1,7 +1,8 @@
 // The bytes of an input that wait to be split into records.
-ghost use Rattle.std.specs.Prelude.{◌≡◌, [], ◌++◌, drop, MatchResult};
+ghost use Rattle.std.specs.Prelude.{◌≡◌, ℕ, List, [], ◌++◌, drop, MatchResult};
 
 use std::alloc::{AllocError, Global};
+use std::marker::Model;
 
 /// The bytes of an input that have come and are not used yet.
 #[derive(Drop)]
@@ -9,19 +10,25 @@ pub struct Inbox {
     waiting: Vec<u8>,
 }
 
+impl Model for Inbox {
+    ghost Value = { List ℕ };
+
+    ghost view = { λ inbox. inbox.waiting.items };
+}
+
 impl Inbox {
     /// An inbox without a byte.
-    pub fn new(heap: Global) -> Inbox
-        ensures { result.waiting.items ≡ [] }
+    pub fn new(alloc: Global) -> Inbox
+        ensures { result ≡ [] }
     {
         Inbox {
-            waiting: Vec::new(heap),
+            waiting: Vec::new(alloc),
         }
     }
 
     /// The bytes that wait.
     pub fn waiting(&self) -> &[u8]
-        ensures { result.now ≡ self.now.waiting.items }
+        ensures { result.now ≡ self.now }
     {
         self.waiting.as_slice()
     }
@@ -29,22 +36,17 @@ impl Inbox {
     /// Puts bytes behind those that wait. Where memory is short, nothing changes.
     pub fn add(&mut self, bytes: &[u8]) -> Result<(), AllocError>
         ensures { MatchResult result
-            (λ _. self.new.waiting.items ≡ self.old.waiting.items ++ bytes.now)
-            (λ _. self.new.waiting.items ≡ self.old.waiting.items) }
+            (λ _. self.new ≡ self.old ++ bytes.now)
+            (λ _. self.new ≡ self.old) }
     {
         self.waiting.extend_from_slice(bytes)
     }
 
     /// Lets go of the first `used` bytes.
     pub fn forget(&mut self, used: usize)
-        ensures { self.new.waiting.items ≡ drop used self.old.waiting.items }
+        ensures { self.new ≡ drop used self.old }
     {
-        let length = self.waiting.len();
-        if used >= length {
-            self.waiting.clear();
-            return;
-        }
-        self.waiting.copy_within(used..length, 0);
-        self.waiting.truncate(length - used);
+        let used = used.min(self.waiting.len());
+        self.waiting.drain(..used);
     }
 }

@@ -8,6 +8,7 @@ ghost use Rattle.records.specs.Records.{Begins, Cut};
 use wire::order::ByteOrder;
 
 pub mod inbox;
+pub mod split;
 pub mod walk;
 
 /// What the first record holds, and the bytes after that record; `None` where the input has no whole record.

@@ -1,9 +1,11 @@
 // Goes over the records of an input, as they come.
-ghost use Rattle.std.specs.Prelude.{IfOk};
+ghost use Rattle.std.specs.Prelude.{ℕ, List, MatchResult, Result};
+ghost use Rattle.std.specs.declared.io.Error.{Error};
 ghost use Rattle.records.specs.Records.{Walked};
+ghost use Rattle.records.specs.Visits.{VisitsEach, VisitsUpTo};
 
 use crate::inbox::Inbox;
-use crate::split_record;
+use crate::split::Records;
 use std::alloc::Global;
 use std::io;
 use std::io::Read;
@@ -13,8 +15,12 @@ const PIECE: usize = 1 << 18;
 
 /// What is done with the records of an input.
 pub trait Visitor {
+    // One visit: the visitor before it, the index, what the record holds, the answer, and the visitor after it.
+    ghost visits: { Self → ℕ → List ℕ → Result (Unit {0}) Error → Self → Type 0 };
+
     /// Takes a record. The first of an input has index 0.
-    fn visit(&mut self, index: u64, record: &[u8]) -> io::Result<()>;
+    fn visit(&mut self, index: u64, record: &[u8]) -> io::Result<()>
+        ensures { visits self.old index «record».now result self.new };
 
     /// Is called before more of the input is waited for.
     fn pause(&mut self) -> io::Result<()>;
@@ -27,26 +33,29 @@ pub fn visit_whole<V: Visitor>(
     index: u64,
     waiting: &[u8],
 ) -> io::Result<(u64, usize)>
-    ensures { IfOk result (λ p. Walked waiting.now p.0 p.1) }
+    ensures { MatchResult result
+        (λ p. (walk : Walked waiting.now p.0 p.1)
+        × VisitsEach V.visits visitor.old index walk.held visitor.new)
+        (λ e. VisitsUpTo V.visits waiting.now index visitor.old e visitor.new) }
 {
-    let mut rest = waiting;
+    let mut records = Records::new(waiting);
     let mut count = 0;
-    while let Some((record, after)) = split_record(rest) {
+    // After a `for` over `&mut records` a proof knows nothing of what they are.
+    while let Some(record) = records.next() {
         visitor.visit(index.wrapping_add(count), record)?;
         count += 1;
-        rest = after;
     }
-    Ok((count, waiting.len() - rest.len()))
+    Ok((count, waiting.len() - records.rest().len()))
 }
 
 /// Visits each whole record of an input, to its end. A last record that is cut is not visited.
 pub fn visit_all<R: Read, V: Visitor>(
-    heap: Global,
+    alloc: Global,
     input: &mut R,
     visitor: &mut V,
 ) -> io::Result<()> {
-    let mut piece = vec![in heap; 0; PIECE]?;
-    let mut inbox = Inbox::new(heap);
+    let mut piece = vec![in alloc; 0; PIECE]?;
+    let mut inbox = Inbox::new(alloc);
     let mut index: u64 = 0;
     // Nothing says that an input ends, so the turns are counted.
     for _ in 0..u64::MAX {
