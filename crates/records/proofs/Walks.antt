@@ -40,23 +40,24 @@ module _ {V E : Type 0} (visits : V → ℕ → List ℕ → Result (Unit {0}) E
     pub passed : Passed input held rest
     pub visited : VisitsEach visits v index held w
 
-  pub visits_further : {input xs rest after : List ℕ} {index n : ℕ} {v u w : V} → VisitsSoFar input index v n rest u
-      → Begins rest xs after → visits u ((index + n) % 2 ^ 64) xs (Ok tt) w → VisitsSoFar input index v (n + 1) after w
+module _ {V E : Type 0} {visits : V → ℕ → List ℕ → Result (Unit {0}) E → V → Type 0} where
+  pub visits_further : {input xs rest after : List ℕ} {index n : ℕ} {v u w : V} → VisitsSoFar visits input index v n rest u
+      → Begins rest xs after → visits u ((index + n) % 2 ^ 64) xs (Ok tt) w → VisitsSoFar visits input index v (n + 1) after w
   visits_further {input} {xs} {rest} {after} {index} {n} {v} {u} {w} f b s =
       record {
         held = f.held ++ xs ∷ [];
         many = length_push f.held xs ∙ ap (λ k. k + 1) f.many;
         passed = passed_more f.passed b;
-        visited = visits_one_more f.held v index u xs w f.visited (rw f.many s);
+        visited = visits_one_more visits f.held v index u xs w f.visited (rw f.many s);
       }
 
   -- where no whole record is left, those are all, and have the bytes before what is left
-  pub visits_all : {input rest : List ℕ} {index n : ℕ} {v w : V} → VisitsSoFar input index v n rest w → Cut rest
-      → (walk : Walked input n (length input - length rest)) × VisitsEach visits v index walk.held w
-  visits_all {input} {rest} {index} {n} {v} {w} f c =
+  pub visits_all : {input rest left : List ℕ} {index n : ℕ} {v w : V} → VisitsSoFar visits input index v n rest w → Cut rest → left ≡ rest
+      → (walk : Walked input n (length input - length left)) × VisitsEach visits v index walk.held w
+  visits_all {input} {rest} {left} {index} {n} {v} {w} f c e =
       let front = flat_map record_of f.held in
-      let used = length input - length rest in
-      let l : length input ≡ length front + length rest = ap length f.passed.in_a_row ∙ length-append front rest in
+      let used = length input - length left in
+      let l : length input ≡ length front + length left = ap length f.passed.in_a_row ∙ length-append front rest ∙ ap (λ k. length front + k) (ap length (sym e)) in
       let d : drop used input ≡ rest = ap (drop used) f.passed.in_a_row ∙ drop_at front rest used (omega arith) in
       let walk : Walked input n used = record {
         held = f.held;

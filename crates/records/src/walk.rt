@@ -1,8 +1,8 @@
 // Goes over the records of an input, as they come.
-ghost use Rattle.std.specs.Prelude.{ℕ, List, MatchResult, Result};
+ghost use Rattle.std.specs.Prelude.{ℕ, List, MatchResult, Result, ⊤};
 ghost use Rattle.std.specs.declared.io.Error.{Error};
 ghost use Rattle.records.specs.Records.{Walked};
-ghost use Rattle.records.specs.Visits.{VisitsEach, VisitsUpTo};
+ghost use Rattle.records.specs.Visits.{VisitsEach, VisitsUpTo, VisitsAll, VisitsUntil};
 
 use crate::inbox::Inbox;
 use crate::split::Records;
@@ -14,19 +14,25 @@ use std::io::Read;
 const PIECE: usize = 1 << 18;
 
 /// What is done with the records of an input.
+/// An impl may leave the two ghost members as they are, and then promises nothing of its calls,
+/// as where it prints: no contract can say what a terminal takes.
 pub trait Visitor {
-    // One visit: the visitor before it, the index, what the record holds, the answer, and the visitor after it.
-    ghost visits: { Self → ℕ → List ℕ → Result (Unit {0}) Error → Self → Type 0 };
+    // Relates the visitor before a visit, the index, what the record holds, the answer, and the visitor after it.
+    ghost visits: { Self → ℕ → List ℕ → Result (Unit {0}) Error → Self → Type 0 } = { λ _ _ _ _ _. ⊤ };
+
+    // Relates the visitor before a pause, the answer, and the visitor after it.
+    ghost pauses: { Self → Result (Unit {0}) Error → Self → Type 0 } = { λ _ _ _. ⊤ };
 
     /// Takes a record. The first of an input has index 0.
     fn visit(&mut self, index: u64, record: &[u8]) -> io::Result<()>
         ensures { visits self.old index «record».now result self.new };
 
     /// Is called before more of the input is waited for.
-    fn pause(&mut self) -> io::Result<()>;
+    fn pause(&mut self) -> io::Result<()>
+        ensures { pauses self.old result self.new };
 }
 
-/// Visits each whole record of `waiting`, numbered from `index` on.
+/// Visits each whole record of `waiting`, in order and numbered from `index` on, until a visit fails.
 /// Answers how many there were, and how many bytes they have.
 pub fn visit_whole<V: Visitor>(
     visitor: &mut V,
@@ -40,7 +46,7 @@ pub fn visit_whole<V: Visitor>(
 {
     let mut records = Records::new(waiting);
     let mut count = 0;
-    // After a `for` over `&mut records` a proof knows nothing of what they are.
+    // A `while`: after a `for` over `&mut records` a proof knows nothing of those that are left.
     while let Some(record) = records.next() {
         visitor.visit(index.wrapping_add(count), record)?;
         count += 1;
@@ -48,12 +54,19 @@ pub fn visit_whole<V: Visitor>(
     Ok((count, waiting.len() - records.rest().len()))
 }
 
-/// Visits each whole record of an input, to its end. A last record that is cut is not visited.
+/// Visits each whole record of an input, to its end, and pauses after each piece of it that came.
+/// A last record that is cut is not visited.
 pub fn visit_all<R: Read, V: Visitor>(
     alloc: Global,
     input: &mut R,
     visitor: &mut V,
-) -> io::Result<()> {
+) -> io::Result<()>
+    ensures { MatchResult result
+        (λ _. VisitsAll V.visits V.pauses
+        (R.remaining input.old) (R.remaining input.new) visitor.old visitor.new)
+        (λ e. VisitsUntil V.visits V.pauses
+        (R.remaining input.old) (R.remaining input.new) visitor.old e visitor.new) }
+{
     let mut piece = vec![in alloc; 0; PIECE]?;
     let mut inbox = Inbox::new(alloc);
     let mut index: u64 = 0;
