@@ -15,14 +15,8 @@ struct Reporter<W: Write + Drop> {
 impl<W: Write + Drop> Visitor for Reporter<W> {
     fn visit(&mut self, index: u64, record: &[u8]) -> io::Result<()> {
         match Packet::read(record) {
-            Ok(packet) => {
-                let number = packet.number;
-                writeln!(self.out, "{index} packet {number}")
-            }
-            Err(refusal) => {
-                let number = refusal.fault.number();
-                writeln!(self.out, "{index} refused {number}")
-            }
+            Ok(packet) => writeln!(self.out, "{index} packet {}", packet.number),
+            Err(refusal) => writeln!(self.out, "{index} refused {}", refusal.fault),
         }
     }
 

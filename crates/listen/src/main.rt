@@ -30,20 +30,15 @@ struct Listener<S: Shelf + Drop, W: Write + Drop> {
 }
 
 impl<S: Shelf + Drop, W: Write + Drop> Listener<S, W> {
-    fn refused(&mut self, index: u64, refusal: Refusal) -> io::Result<()> {
-        let number = refusal.fault.number();
-        writeln!(self.out, "{index} refused {number}")
+    // Fetches the message that the packet of this datagram made whole, and answers its length.
+    fn fetch(&mut self, datagram: &[u8]) -> Result<usize, Refusal> {
+        let packet = Packet::read(datagram)?;
+        self.receiver
+            .fetch(packet.id, self.message.as_mut_slice())
     }
 
-    // Fetches the message that the packet of this datagram made whole.
-    fn fetch(&mut self, index: u64, datagram: &[u8]) -> io::Result<()> {
-        match Packet::read(datagram) {
-            Ok(packet) => match self.receiver.fetch(packet.id, self.message.as_mut_slice()) {
-                Ok(length) => writeln!(self.out, "message {length}"),
-                Err(refusal) => self.refused(index, refusal),
-            },
-            Err(refusal) => self.refused(index, refusal),
-        }
+    fn refused(&mut self, index: u64, refusal: Refusal) -> io::Result<()> {
+        writeln!(self.out, "{index} refused {}", refusal.fault)
     }
 }
 
@@ -54,7 +49,10 @@ impl<S: Shelf + Drop, W: Write + Drop> Visitor for Listener<S, W> {
             Ok(Outcome::Repeated) => writeln!(self.out, "{index} repeated"),
             Ok(Outcome::Whole) => {
                 writeln!(self.out, "{index} whole")?;
-                self.fetch(index, record)
+                match self.fetch(record) {
+                    Ok(length) => writeln!(self.out, "message {length}"),
+                    Err(refusal) => self.refused(index, refusal),
+                }
             }
             Err(refusal) => self.refused(index, refusal),
         }

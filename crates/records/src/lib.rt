@@ -18,7 +18,7 @@ pub fn split_record(input: &[u8]) -> Option<(&[u8], &[u8])>
     let [high, low, rest @ ..] = input else {
         return None;
     };
-    let length = ByteOrder::Big.decode_u16([*high, *low]) as usize;
+    let length = ByteOrder::Big.decode::<u16, 2>([*high, *low]) as usize;
     if rest.len() < length {
         return None;
     }

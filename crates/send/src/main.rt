@@ -54,8 +54,8 @@ impl<W: Write + Drop, E: Eprint + Drop> Loads<W, E> {
     {
         let full = FRONT_LENGTH + self.length.value();
         for packet in self.packets[0..size].chunks(full) {
-            self.out
-                .write_all(&ByteOrder::Big.encode_u16(packet.len() as u16))?;
+            let length: [u8; 2] = ByteOrder::Big.encode(packet.len() as u16);
+            self.out.write_all(&length)?;
             self.out.write_all(packet)?;
         }
         Ok(())
@@ -66,10 +66,7 @@ impl<W: Write + Drop, E: Eprint + Drop> Visitor for Loads<W, E> {
     fn visit(&mut self, index: u64, record: &[u8]) -> io::Result<()> {
         match self.cut(record) {
             Ok(size) => self.emit(size),
-            Err(refusal) => {
-                let number = refusal.fault.number();
-                eprintln!(self.errors; "load {index} refused {number}")
-            }
+            Err(refusal) => eprintln!(self.errors; "load {index} refused {}", refusal.fault),
         }
     }
 

@@ -8,7 +8,7 @@ returns-then-rest-length c xs rest b =
     let input = c.args.input.now in
     let s = begins_stated input xs rest b in
     let l = ap length (take_rest input 2) ∙ length-drop 2 input in
-    let e : c.decode_u16-length.result ≡ stated input = c.decode_u16-length.ensures in
+    let e : c.decode-length.result ≡ stated input = c.decode-length.ensures in
     omega arith
 
 pub returns : goal.returns
@@ -17,7 +17,7 @@ returns c =
     let two : 2 ≤ length input = search rules in
     let r = take_rest input 2 in
     let l = ap length r ∙ length-drop 2 input in
-    let e : c.decode_u16-length.result ≡ stated input = c.decode_u16-length.ensures in
+    let e : c.decode-length.result ≡ stated input = c.decode-length.ensures in
     let f = c.split_at.ensures.front in
     let b = c.split_at.ensures.back in
     begins_same (cc) (cc) (stated_begins input (λ i. let t = c.type_inv.input i in omega arith) (omega arith) (omega arith))
