@@ -33,8 +33,7 @@ impl<S: Shelf + Drop, W: Write + Drop> Listener<S, W> {
     // Fetches the message that the packet of this datagram made whole, and answers its length.
     fn fetch(&mut self, datagram: &[u8]) -> Result<usize, Refusal> {
         let packet = Packet::read(datagram)?;
-        self.receiver
-            .fetch(packet.id, self.message.as_mut_slice())
+        self.receiver.fetch(packet.id, self.message.as_mut_slice())
     }
 
     fn refused(&mut self, index: u64, refusal: Refusal) -> io::Result<()> {
