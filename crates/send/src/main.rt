@@ -47,25 +47,23 @@ impl<W: Write + Drop, E: Eprint + Drop> Loads<W, E> {
             self.packets.as_mut_slice(),
         )
     }
+}
 
-    // Writes the first `size` bytes of the packets as records, one for each packet: all but the last are full.
-    fn emit(&mut self, size: usize) -> io::Result<()>
-        requires { size ≤ vec_len self.old.packets }
-    {
-        let full = FRONT_LENGTH + self.length.value();
-        for packet in self.packets[0..size].chunks(full) {
-            let length: [u8; 2] = ByteOrder::Big.encode(packet.len() as u16);
-            self.out.write_all(&length)?;
-            self.out.write_all(packet)?;
-        }
-        Ok(())
+// Writes the packets of a message as records, one for each packet: all but the last are full.
+fn emit<W: Write>(out: &mut W, length: BodyLength, packets: &[u8]) -> io::Result<()> {
+    let full = FRONT_LENGTH + length.value();
+    for packet in packets.chunks(full) {
+        let size: [u8; 2] = ByteOrder::Big.encode(packet.len() as u16);
+        out.write_all(&size)?;
+        out.write_all(packet)?;
     }
+    Ok(())
 }
 
 impl<W: Write + Drop, E: Eprint + Drop> Visitor for Loads<W, E> {
     fn visit(&mut self, index: u64, record: &[u8]) -> io::Result<()> {
         match self.cut(record) {
-            Ok(size) => self.emit(size),
+            Ok(size) => emit(&mut self.out, self.length, &self.packets[0..size]),
             Err(refusal) => eprintln!(self.errors; "load {index} refused {}", refusal.fault),
         }
     }
