@@ -1,3 +1,2 @@
-pub mod Lengths
 pub mod Walks
 pub mod Rounds

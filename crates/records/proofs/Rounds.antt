@@ -10,8 +10,7 @@ use Rattle.std.proofs.lemmas.Bool.{cases_lt}
 use Rattle.records.specs.Records.{record_of, Cut, Walked, Passed}
 use Rattle.records.specs.Visits.{VisitsEach, Rounds, BreaksOff, VisitsAll, VisitsUntil}
 use Rattle.records.specs.Visits.Rounds.{start, round}
-use Rattle.records.proofs.Lengths.{begins_shorter}
-use Rattle.records.proofs.Walks.{passed_none}
+use Rattle.records.proofs.Walks.{begins_shorter, passed_none}
 
 -- known bytes that are read in two parts
 pub consumes_none : (a : Option (List ℕ)) → Consumes a a []

@@ -1,10 +1,21 @@
 -- A walk over records: those that were passed and visited, and what is left.
-use Rattle.std.proofs.Common.{◌≡◌, ℕ, ◌+◌, ◌-◌, ◌%◌, ◌^◌, ◌≤◌, List, [], ◌∷◌, ◌++◌, length, take, drop, Result, Ok, sym, refl, ap, ◌∙◌, subst, ⊎_elim, arith}
+use Rattle.std.proofs.Common.{◌≡◌, ℕ, ◌+◌, ◌-◌, ◌%◌, ◌^◌, ◌<◌, ◌≤◌, List, [], ◌∷◌, ◌++◌, length, take, drop, Result, Ok, sym, refl, ap, ◌∙◌, subst, ⊎_elim, arith}
 use Rattle.std.specs.List.{flat_map}
 use Rattle.std.proofs.lemmas.List.{append_assoc, length-append, take_at, drop_at, length_push, flat_map_more, get_or_append_left, get_or_push}
 use Rattle.std.proofs.lemmas.Bool.{cases_lt}
+use Rattle.wire.specs.declared.order.ByteOrder.TheVariants.{Big}
+use Rattle.wire.specs.Numbers.{digits}
+use Rattle.wire.proofs.Numbers.{length_digits}
 use Rattle.records.specs.Records.{record_of, Begins, Cut, Walked, Passed}
 use Rattle.records.specs.Visits.{VisitsEach}
+
+-- what follows a record is shorter than the input
+pub begins_shorter : {input xs rest : List ℕ} → Begins input xs rest → length rest < length input
+begins_shorter {input} {xs} {rest} b =
+    let d = length_digits Big 2 (length xs) in
+    let l = ap length b.bytes_are ∙ length-append (record_of xs) rest in
+    let r = length-append (digits Big 2 (length xs)) xs in
+    omega arith
 
 pub passed_none : (input : List ℕ) → Passed input [] input
 passed_none input = record { counted = λ i h. absurd (omega arith); in_a_row = refl }

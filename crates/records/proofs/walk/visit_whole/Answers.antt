@@ -1,6 +1,5 @@
 use Rattle.std.proofs.Common.{◌∙◌, arith}
-use Rattle.records.proofs.Lengths.{begins_shorter}
-use Rattle.records.proofs.Walks.{visits_further, visits_all}
+use Rattle.records.proofs.Walks.{begins_shorter, visits_further, visits_all}
 use Rattle.records.proofs.walk.visit_whole.Goals as goal
 
 pub loop-record-preserved : goal.loop-record-preserved
