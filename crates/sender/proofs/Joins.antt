@@ -1,9 +1,9 @@
 -- All that a sender writes, joined.
+use Rattle.std.proofs.lemmas.Grind.{common_steps}
 use Rattle.std.proofs.Common.{◌≡◌, ℕ, zero, suc, ◌+◌, ◌*◌, ◌<◌, List, [], ◌∷◌, ◌++◌, map, length, take, drop, sym, refl, ap, ◌∙◌, subst, arith}
-use native.Mathlib.Nat.{zero-div}
 use Rattle.std.specs.List.{range_with_len}
 use Rattle.std.proofs.lemmas.List.FromFn.{map-range_with_len_more}
-use Rattle.std.proofs.lemmas.List.{map-append, take_at, flat_map_more}
+use Rattle.std.proofs.lemmas.List.{map-append, take_at}
 use Rattle.packet.specs.Packets.{canonical, size_of}
 use Rattle.packet.proofs.Values.{length_canonical}
 use Rattle.sender.specs.Packets.{Plan, LawfulPlan, packet_at, packets_from, packets_of, bytes_of}
@@ -31,9 +31,7 @@ packets_join p m k n =
     ∙ (ap bytes_of (map-append f (range_with_len 0 k) (range_with_len k n)) ∙ bytes_join (map f (range_with_len 0 k)) (map f (range_with_len k n)))
 
 pub took_none : (p : Plan) → Took (new_sending p) []
-took_none p =
-    let z : 0 * p.cut ≡ 0 = omega arith in
-    record { sent_is = sym (zero-div p.cut); unsent_is = sym (ap (λ i. drop {A = ℕ} i []) z) }
+took_none p = grind (arith, common_steps)
 
 -- after a run: the message is taken, and its sure packets are written
 record SoFar (p : Plan) (m out : List ℕ) (s : Sending) : Type 0 where
@@ -74,7 +72,7 @@ module _ (p : Plan) (lawful : LawfulPlan p) where
       }
 
   whole_push : (qs : List (List ℕ)) (q : List ℕ) → whole qs ++ q ≡ whole (qs ++ q ∷ [])
-  whole_push qs q = flat_map_more (λ (y : List ℕ). y) [] qs q
+  whole_push qs q = grind (arith, common_steps)
 
   so_far : {qs : List (List ℕ)} {out : List ℕ} {s : Sending} → Sends p qs out s → SoFar p (whole qs) out s
   so_far send_none = record { same_plan = refl; took = took_none p; out_is = sym bytes_none }

@@ -1,16 +1,17 @@
 -- The packets of a message, as a reader finds them.
-use Rattle.std.proofs.Common.{◌≡◌, ℕ, zero, suc, ◌+◌, ◌-◌, ◌*◌, ◌<◌, ◌≤◌, List, ◌++◌, length, take, drop, sym, refl, ap, ◌∙◌, subst, mul-le-mul_right, arith}
+use Rattle.std.proofs.lemmas.Grind.{common_steps}
+use Rattle.std.proofs.Common.{◌≡◌, ℕ, zero, suc, ◌+◌, ◌-◌, ◌*◌, ◌<◌, ◌≤◌, List, ◌++◌, length, take, drop, sym, refl, ap, ◌∙◌, subst, arith}
 use Rattle.std.specs.List.{flat_map}
+use Rattle.std.proofs.Math.Nat.{lt-div-mul-add}
 use Rattle.std.proofs.lemmas.List.FromFn.{length-map-range_with_len, get_or-map-range_with_len}
-use Rattle.std.proofs.lemmas.List.{take_all, take-take, drop-take, drop-drop, take-append-drop, length-take, length-drop}
+use Rattle.std.proofs.lemmas.List.{take_all, take-take, drop-take, drop-drop, take-append-drop}
 use Rattle.wire.specs.Limits.{max_packets}
 use Rattle.packet.specs.Packets.{PacketValue, InRange}
 use Rattle.packet.proofs.Encodings.{reads_back}
 use Rattle.sender.specs.Packets.{Plan, LawfulPlan, packet_count, packet_at, packets_from, packets_of, LawfulPacket, LawfulPackets, PacketsLawful}
 use Rattle.sender.specs.Sending.{sure}
-use Rattle.sender.proofs.Cuts.{one_more, few_more, quotient_low, quotient_high}
 use Rattle.sender.proofs.Buffers.{encoded}
-use Rattle.sender.proofs.Messages.{cut_positive, count_sure, in_range_with}
+use Rattle.sender.proofs.Messages.{cut_positive}
 
 -- cuts that follow one another, joined
 bodies_join : (p : Plan) (m : List ℕ) (a n : ℕ) → flat_map (λ v. v.body) (packets_from p m a n) ≡ take (n * p.cut) (drop (a * p.cut) m)
@@ -19,9 +20,8 @@ bodies_join p m a zero = let z : 0 * p.cut ≡ 0 = omega arith in sym (ap (λ i.
 bodies_join p m a (suc n) =
     let L = p.cut in
     let xs = drop (a * L) m in
-    let next : drop ((a + 1) * L) m ≡ drop L xs = ap (λ i. drop i m) (one_more a L) ∙ sym (drop-drop L (a * L) m) in
+    let next : drop ((a + 1) * L) m ≡ drop L xs = ap (λ i. drop i m) (let o : (a + 1) * L ≡ a * L + L = omega arith in o) ∙ sym (drop-drop L (a * L) m) in
     let s : suc n ≡ n + 1 = omega arith in
-    let o = one_more n L in
     let len : L + n * L ≡ suc n * L = omega arith ∙ ap (λ i. i * L) (sym s) in
     ap (λ y. take L xs ++ y) (bodies_join p m (a + 1) n ∙ ap (take (n * L)) next)
     ∙ (ap (λ y. y ++ take (n * L) (drop L xs)) (sym (take-take L (L + n * L) xs (omega arith)))
@@ -30,29 +30,14 @@ bodies_join p m a (suc n) =
 
 module _ (p : Plan) (m : List ℕ) (h : LawfulPlan p) (some : 0 < length m) (fits : length m ≤ max_packets * p.cut) where
   count_is : packet_count p.cut (length m) ≡ sure p.cut (length m) + 1
-  count_is = count_sure p.cut (length m) (cut_positive p h) some
+  count_is = grind (arith, common_steps)
 
   few : packet_count p.cut (length m) ≤ max_packets
-  few =
-      let c = count_is in
-      let lo = quotient_low (length m - 1) p.cut in
-      let f : sure p.cut (length m) < max_packets = few_more p.cut (sure p.cut (length m)) max_packets (omega arith) in
-      omega arith
+  few = grind (arith, common_steps)
 
   packet_in_range : (i : ℕ) → i < packet_count p.cut (length m) → InRange (packet_at p m i)
   unfolding packet_at
-  packet_in_range i l =
-      let L = p.cut in
-      let c = count_is in
-      let f = few in
-      let most = h.lawful_cut.at_most in
-      let least = h.lawful_cut.at_least in
-      let lo = quotient_low (length m - 1) L in
-      let up = mul-le-mul_right {m = i} {n = sure L (length m)} L (omega arith) in
-      let body = take L (drop (i * L) m) in
-      let ld = length-drop (i * L) m in
-      let lb = length-take L (drop (i * L) m) in
-      in_range_with p _ i (packet_at p m i) body refl h.id_size (omega arith) (omega arith) (omega arith)
+  packet_in_range i l = grind (arith, common_steps)
 
   packet_lawful : (i : ℕ) → i < packet_count p.cut (length m) → LawfulPacket p m (packet_count p.cut (length m)) i (packet_at p m i)
   unfolding packet_at
@@ -74,8 +59,8 @@ module _ (p : Plan) (m : List ℕ) (h : LawfulPlan p) (some : 0 < length m) (fit
       let n = packet_count p.cut (length m) in
       let l = length-map-range_with_len (packet_at p m) 0 n in
       let f = few in
-      let hi = quotient_high (length m - 1) p.cut (cut_positive p h) in
-      let e = ap (λ i. i * p.cut) count_is ∙ one_more (sure p.cut (length m)) p.cut in
+      let hi = lt-div-mul-add {a = length m - 1} (cut_positive p h) in
+      let e = ap (λ i. i * p.cut) count_is in
       let all : length m ≤ n * p.cut = omega arith in
       record {
         few = omega arith;

@@ -1,7 +1,9 @@
 pub mod Issues
+pub mod Results
 pub mod Cuts
 pub mod Buffers
 pub mod Messages
+pub mod Bodies
 pub mod Portions
 pub mod Tails
 pub mod Finals

@@ -1,15 +1,15 @@
 -- What a sender holds, before and after a portion.
-use Rattle.std.proofs.Common.{◌≡◌, ℕ, ◌+◌, ◌-◌, ◌*◌, ◌/◌, ◌<◌, ◌≤◌, List, ◌++◌, map, length, drop, sym, ap, ◌∙◌, subst, inl, inr, add-zero, add-mul, arith}
-use native.Mathlib.Nat.{add-mul-div_right, div-eq_of_lt, zero-div}
+use Rattle.std.proofs.lemmas.Grind.{common_steps}
+use Rattle.std.proofs.Common.{◌≡◌, ℕ, ◌+◌, ◌-◌, ◌*◌, ◌/◌, ◌<◌, ◌≤◌, List, ◌++◌, map, length, drop, sym, ap, ◌∙◌, subst, inl, inr, add-mul, arith}
+use native.Mathlib.Nat.{add-mul-div_right, zero-div}
 use Rattle.std.specs.List.{range_with_len}
-use Rattle.std.proofs.lemmas.List.{drop-drop, drop-append-le, length-append, length-drop}
+use Rattle.std.proofs.lemmas.List.{drop-drop, drop-append-le, length-append}
 use Rattle.std.proofs.lemmas.Bool.{cases_lt}
 use Rattle.wire.specs.declared.refusal.Refusal.{Refusal}
 use Rattle.packet.specs.Packets.{PacketValue}
 use Rattle.sender.specs.Refusals.{SenderRefusal}
 use Rattle.sender.specs.Packets.{packet_at, packets_from, bytes_of}
-use Rattle.sender.specs.Sending.{Sending, Took, Grown, AddFlaw, long_message, short_buffer, sure, newly, full_size}
-use Rattle.sender.proofs.Cuts.{quotient_low}
+use Rattle.sender.specs.Sending.{Sending, Took, Grown, AddFlaw, short_buffer, sure, newly, full_size}
 use Rattle.sender.proofs.Buffers.{bytes_none}
 use Rattle.sender.proofs.Messages.{same_run, sure_packet, sure_is}
 
@@ -20,16 +20,9 @@ pub record Moved (s : Sending) (q : List ℕ) (n : ℕ) (after : Sending) : Type
   pub sent_is : after.sent ≡ s.sent + n
   pub unsent_is : after.unsent ≡ drop (n * s.plan.cut) (s.unsent ++ q)
 
-pub moved_none : (s : Sending) (q : List ℕ) (after : Sending) → 0 < s.plan.cut → length s.unsent + length q ≤ s.plan.cut
+pub moved_none : (s : Sending) (q : List ℕ) (after : Sending) → 0 ≡ sure s.plan.cut (length s.unsent + length q)
     → after.plan ≡ s.plan → after.sent ≡ s.sent → after.unsent ≡ s.unsent ++ q → Moved s q 0 after
-moved_none s q after p l ep es eu =
-    let z : 0 * s.plan.cut ≡ 0 = omega arith in
-    record {
-      same_plan = ep;
-      number_is = sym (div-eq_of_lt (omega arith));
-      sent_is = es ∙ sym (add-zero s.sent);
-      unsent_is = eu ∙ ap (λ i. drop i (s.unsent ++ q)) (sym z);
-    }
+moved_none s q after n ep es eu = grind (arith, common_steps)
 
 pub none_written : (f : ℕ → PacketValue) (size : ℕ) (was : List ℕ) → was ≡ bytes_of (map f (range_with_len 0 0)) ++ drop (0 * size) was
 none_written f size was =
@@ -51,16 +44,10 @@ sure_plus L c h q n p e l = elim (cases_lt 0 (h + q)) [
 
 module _ (s : Sending) (m : List ℕ) (p : 0 < s.plan.cut) (k : Took s m) where
   pub sent_low : s.sent * s.plan.cut ≤ length m
-  sent_low =
-      let e = ap (λ i. i * s.plan.cut) k.sent_is in
-      let l = quotient_low (length m - 1) s.plan.cut in
-      omega arith
+  sent_low = grind (arith, common_steps)
 
   pub took_long : s.sent * s.plan.cut + length s.unsent ≡ length m
-  took_long =
-      let l = ap length k.unsent_is ∙ length-drop (s.sent * s.plan.cut) m in
-      let w = sent_low in
-      omega arith
+  took_long = grind (arith, common_steps)
 
   pub sure_more : (q : List ℕ) → sure s.plan.cut (length (m ++ q)) ≡ s.sent + sure s.plan.cut (length s.unsent + length q)
   sure_more q =
@@ -72,9 +59,6 @@ module _ (s : Sending) (m : List ℕ) (p : 0 < s.plan.cut) (k : Took s m) where
 
   pub unsent_more : (q : List ℕ) → drop (s.sent * s.plan.cut) (m ++ q) ≡ s.unsent ++ q
   unsent_more q = drop-append-le (s.sent * s.plan.cut) m q sent_low ∙ ap (λ y. y ++ q) (sym k.unsent_is)
-
-  pub message_long : (q : List ℕ) → length (m ++ q) ≡ s.sent * s.plan.cut + (length s.unsent + length q)
-  message_long q = let l = took_long in length-append m q ∙ omega arith
 
   module _ (q : List ℕ) (n : ℕ) (after : Sending) (g : Moved s q n after) where
     pub moved_took : Took after (m ++ q)
@@ -111,10 +95,7 @@ module _ (s : Sending) (m : List ℕ) (p : 0 < s.plan.cut) (k : Took s m) where
 
   module _ (q : List ℕ) (room : ℕ) (left : room + length s.unsent + s.sent * s.plan.cut ≡ 64 * s.plan.cut) where
     pub message_fits : length q ≤ room → length (m ++ q) ≤ 64 * s.plan.cut
-    message_fits h = let l = message_long q in omega arith
-
-    pub long_flaw : (was : List ℕ) {e : Refusal} → SenderRefusal 9 e → room < length q → AddFlaw s m q was e
-    long_flaw was r h = let l = message_long q in long_message r (omega arith)
+    message_fits h = grind (arith, common_steps)
 
     pub short_flaw : (was : List ℕ) (n : ℕ) {e : Refusal} → SenderRefusal 10 e → length q ≤ room
         → n ≡ sure s.plan.cut (length s.unsent + length q) → length was < n * full_size s.plan → AddFlaw s m q was e

@@ -1,42 +1,64 @@
--- What the tail holds, before and after a portion.
-use Rattle.std.proofs.Common.{◌≡◌, ℕ, ◌+◌, ◌-◌, ◌≤◌, List, ◌++◌, length, take, drop, sym, ap, ◌∙◌, arith}
-use Rattle.std.proofs.lemmas.List.{drop-drop, take-append-drop, length-take-le, length-drop, length-append, take_at, drop_at, append_assoc}
-use Rattle.sender.specs.declared.state.State.{State}
+-- How a portion is split: what the first body lacks, the bodies after it, and what is left.
+use Rattle.std.proofs.lemmas.Grind.{common_steps}
+use Rattle.std.proofs.Common.{◌≡◌, ℕ, ◌+◌, ◌-◌, ◌*◌, ◌/◌, ◌<◌, ◌≤◌, List, ◌++◌, length, take, drop, sym, ap, ◌∙◌, arith}
+use Rattle.std.proofs.Math.Nat.{mul-div_left}
+use Rattle.std.proofs.Math.Seq.{take-add}
+use Rattle.std.proofs.lemmas.List.{drop-drop, length-drop, drop_at, take_at}
+use Rattle.sender.specs.Sending.{sure}
 
--- what is held stands in the tail
-pub held_long : (st : State) → length (take st.held st.tail) ≡ st.held
-held_long st = length-take-le st.held st.tail (omega arith)
+-- the portion q, after the bytes t that were held, where n packets of L bytes are sure
+pub record Split (L n : ℕ) (t q missing bodies left : List ℕ) : Type 0 where
+  pub many : n ≡ sure L (length t + length q)
+  pub low : n * L < length t + length q
+  pub first_long : length (t ++ missing) ≡ L
+  pub bodies_count : length bodies / L + 1 ≡ n
+  pub bodies_are : (t ++ missing) ++ bodies ≡ take (n * L) (t ++ q)
+  pub left_is : left ≡ drop (n * L) (t ++ q)
+  pub left_long : length left ≤ L
 
-module _ (L h : ℕ) (t q : List ℕ) (long : length (take h t) ≡ h) where
-  -- a portion that the tail has room for
-  pub held_more : (t2 : List ℕ) → t2 ≡ take h t ++ (q ++ drop (h + length q) t) → take (h + length q) t2 ≡ take h t ++ q
-  held_more t2 e =
-      let la : length (take h t ++ q) ≡ h + length q = length-append (take h t) q ∙ omega arith in
-      ap (take (h + length q)) (e ∙ sym (append_assoc (take h t) q (drop (h + length q) t))) ∙ take_at (take h t ++ q) (drop (h + length q) t) (h + length q) la
+module _ (L h n : ℕ) (t q missing rest bodies left : List ℕ)
+    (some : 0 < L) (within : length t ≤ L) (more : 0 < n) (held : h ≡ length t) (many : n ≡ sure L (h + length q))
+    (missing_is : missing ≡ take (L - h) q) (rest_is : rest ≡ drop (L - h) q)
+    (bodies_is : bodies ≡ take ((n - 1) * L) rest) (left_is : left ≡ drop ((n - 1) * L) rest) where
+  low : n * L < h + length q
+  low = grind (arith, common_steps)
 
-  module _ (low : h ≤ L) (high : L ≤ h + length q) where
-    -- the first body, of what was held and the portion's first bytes
-    pub first_is : (t1 part : List ℕ) → part ≡ take (L - h) q → t1 ≡ take h t ++ (part ++ drop (h + length part) t) → take L t1 ≡ take h t ++ take (L - h) q
-    first_is t1 part ep e =
-        let lq : length part ≡ L - h = ap length ep ∙ length-take-le (L - h) q (omega arith) in
-        let la : length (take h t ++ part) ≡ L = length-append (take h t) part ∙ omega arith in
-        ap (take L) (e ∙ sym (append_assoc (take h t) part (drop (h + length part) t)))
-        ∙ (take_at (take h t ++ part) (drop (h + length part) t) L la ∙ ap (λ y. take h t ++ y) ep)
+  high : h + length q ≤ n * L + L
+  high = grind (arith, common_steps)
 
-    pub first_long : length (take h t ++ take (L - h) q) ≡ L
-    first_long =
-        let lq : length (take (L - h) q) ≡ L - h = length-take-le (L - h) q (omega arith) in
-        length-append (take h t) (take (L - h) q) ∙ omega arith
+  missing_long : length missing ≡ L - h
+  missing_long = grind (arith, common_steps)
 
-    pub first_rest : (take h t ++ take (L - h) q) ++ drop (L - h) q ≡ take h t ++ q
-    first_rest = append_assoc (take h t) (take (L - h) q) (drop (L - h) q) ∙ ap (λ y. take h t ++ y) (take-append-drop (L - h) q)
+  first_long : length (t ++ missing) ≡ L
+  first_long = grind (arith, common_steps)
 
-  -- what is left after whole bodies
-  pub rest_held : (past h2 : ℕ) (t2 t3 part : List ℕ) → h ≤ past → past + h2 ≡ h + length q → part ≡ drop (past - h) q
-      → t3 ≡ take 0 t2 ++ (part ++ drop (0 + length part) t2) → take h2 t3 ≡ drop past (take h t ++ q)
-  rest_held past h2 t2 t3 part a b ep e =
-      let s : h + (past - h) ≡ past = omega arith in
-      let lp : length part ≡ h2 = ap length ep ∙ (length-drop (past - h) q ∙ omega arith) in
-      let d : drop past (take h t ++ q) ≡ drop (past - h) q =
-      ap (λ i. drop i (take h t ++ q)) (sym s) ∙ (sym (drop-drop (past - h) h (take h t ++ q)) ∙ ap (drop (past - h)) (drop_at (take h t) q h long)) in
-      ap (take h2) e ∙ (take_at part (drop (0 + length part) t2) h2 lp ∙ (ep ∙ sym d))
+  rest_long : length rest ≡ length q - (L - h)
+  rest_long = grind (arith, common_steps)
+
+  bodies_long : length bodies ≡ (n - 1) * L
+  bodies_long = grind (arith, common_steps)
+
+  joined : (t ++ missing) ++ rest ≡ t ++ q
+  joined = grind (arith, common_steps)
+
+  pub split : Split L n t q missing bodies left
+  split =
+      let m : L + (n - 1) * L ≡ n * L = grind (arith, common_steps) in
+      let l = low in
+      let u = high in
+      let r = rest_long in
+      let quotient : length bodies / L ≡ n - 1 = ap (λ i. i / L) bodies_long ∙ mul-div_left (n - 1) some in
+      let after : rest ≡ drop L (t ++ q) = sym (ap (drop L) (sym joined) ∙ drop_at (t ++ missing) rest L first_long) in
+      let front : t ++ missing ≡ take L (t ++ q) = sym (ap (take L) (sym joined) ∙ take_at (t ++ missing) rest L first_long) in
+      let left_long = ap length left_is ∙ length-drop ((n - 1) * L) rest in
+      record {
+        many = many ∙ ap (λ i. sure L (i + length q)) held;
+        low = omega arith;
+        first_long = first_long;
+        bodies_count = omega arith;
+        bodies_are = ap (λ y. (t ++ missing) ++ y) (bodies_is ∙ ap (take ((n - 1) * L)) after)
+            ∙ (ap (λ y. y ++ take ((n - 1) * L) (drop L (t ++ q))) front
+            ∙ (sym (take-add L ((n - 1) * L) (t ++ q)) ∙ ap (λ i. take i (t ++ q)) m));
+        left_is = left_is ∙ (ap (drop ((n - 1) * L)) after ∙ (drop-drop ((n - 1) * L) L (t ++ q) ∙ ap (λ i. drop i (t ++ q)) m));
+        left_long = omega arith;
+      }

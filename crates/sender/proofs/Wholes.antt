@@ -1,6 +1,6 @@
 -- All packets of a message that is there as a whole.
-use Rattle.std.proofs.Common.{◌≡◌, ℕ, ◌+◌, ◌-◌, ◌*◌, ◌<◌, ◌≤◌, List, [], ◌∷◌, ◌++◌, length, take, drop, sym, refl, ap, ◌∙◌, mul-add, arith}
-use native.Mathlib.Nat.{zero-div}
+use Rattle.std.proofs.lemmas.Grind.{common_steps}
+use Rattle.std.proofs.Common.{◌≡◌, ℕ, ◌+◌, ◌-◌, ◌*◌, ◌<◌, ◌≤◌, List, [], ◌∷◌, ◌++◌, length, take, drop, sym, refl, ap, ◌∙◌, arith}
 use Rattle.std.proofs.lemmas.List.FromFn.{map-range_with_len_more}
 use Rattle.std.proofs.lemmas.List.{append-nil, append_assoc, length-append, length-drop, take_all, take_at, take_rest, drop_at, drop-drop}
 use borrow.Rule.Slice.PartMut.{put_mid}
@@ -8,21 +8,17 @@ use Rattle.packet.specs.Packets.{canonical, size_of}
 use Rattle.packet.proofs.Values.{length_canonical}
 use Rattle.sender.specs.Packets.{Plan, LawfulPlan, packet_at, packets_from, bytes_of}
 use Rattle.wire.specs.declared.refusal.Refusal.{Refusal}
-use Rattle.sender.specs.Sending.{Sending, new_sending, Added, Unadded, long_message, short_buffer, Ended, Unended, no_message, short_end, sure, newly, full_size, final_packet}
+use Rattle.sender.specs.Sending.{Sending, new_sending, Added, Ended, Unended, no_message, short_end, sure, newly, full_size, final_packet}
 use Rattle.sender.specs.Runs.{whole, send_none, send_more}
 use Rattle.sender.specs.Messages.{message_bytes, MessageWritten}
 use Rattle.sender.proofs.Buffers.{bytes_one, bytes_join, length_bytes, put_from}
-use Rattle.sender.proofs.Cuts.{quotient_low, quotient_high}
 use Rattle.sender.proofs.Messages.{cut_positive, count_sure, size_with, size_sure}
 use Rattle.sender.proofs.Joins.{took_none, portions_join}
 
 module _ (p : Plan) (lawful : LawfulPlan p) (m : List ℕ) (some : 0 < length m) where
   -- the packets before the last hold no more than the message, and the last holds the rest
   pub cuts_within : (sure p.cut (length m) * p.cut < length m) × (length m ≤ sure p.cut (length m) * p.cut + p.cut)
-  cuts_within =
-      let lo = quotient_low (length m - 1) p.cut in
-      let hi = quotient_high (length m - 1) p.cut (cut_positive p lawful) in
-      (omega arith, omega arith)
+  cuts_within = grind (arith, common_steps)
 
   pub final_size : size_of (final_packet p m) ≡ 32 + (length m - sure p.cut (length m) * p.cut)
   unfolding packet_at
@@ -48,8 +44,6 @@ module _ (p : Plan) (lawful : LawfulPlan p) (m : List ℕ) (some : 0 < length m)
       let e : length (message_bytes p m) ≡ length (bytes_of (packets_from p m 0 K)) + length (bytes_of (v ∷ [])) =
       ap (λ k. length (bytes_of (packets_from p m 0 k))) c
       ∙ (ap (λ t. length (bytes_of t)) more ∙ (ap length (bytes_join (packets_from p m 0 K) (v ∷ [])) ∙ length-append (bytes_of (packets_from p m 0 K)) (bytes_of (v ∷ [])))) in
-      let d : K * full_size p ≡ K * 32 + K * L = mul-add K 32 L in
-      let g : (K + 1) * 32 ≡ K * 32 + 32 = omega arith in
       omega arith
 
   module _ (fits : length m ≤ 64 * p.cut) (was : List ℕ) (room : (sure p.cut (length m) + 1) * 32 + length m ≤ length was) where
@@ -59,19 +53,10 @@ module _ (p : Plan) (lawful : LawfulPlan p) (m : List ℕ) (some : 0 < length m)
         let K = sure p.cut (length m) in
         let w = cuts_within in
         let f = final_size in
-        let d : K * full_size p ≡ K * 32 + K * p.cut = mul-add K 32 p.cut in
-        let g : (K + 1) * 32 ≡ K * 32 + 32 = omega arith in
         omega arith
 
     newly_all : newly p [] m ≡ sure p.cut (length m)
-    newly_all = let z = zero-div p.cut in omega arith
-
-    -- a new sender takes the message
-    pub add_never : {new : List ℕ} {e : Refusal} {t : Sending} → Unadded (new_sending p) m was new e t → ⊥
-    add_never u = elim (u.cause [] (took_none p)) [
-      | long_message r h ↦ omega arith
-      | short_buffer r h l ↦ let f = full_fits in let n = ap (λ k. k * full_size p) newly_all in omega arith
-    ]
+    newly_all = grind (arith, common_steps)
 
     module _ (new : List ℕ) (n : ℕ) {t : Sending} (long : length new ≡ length was) (a : Added (new_sending p) m was new n t) where
       pub count_is : n ≡ sure p.cut (length m)
@@ -88,9 +73,6 @@ module _ (p : Plan) (lawful : LawfulPlan p) (m : List ℕ) (some : 0 < length m)
           let c = ap (λ k. k * full_size p) count_is in
           omega arith
 
-      pub full_within : n * full_size p ≤ length new
-      full_within = let f = full_fits in let ci = ap (λ k. k * full_size p) count_is in omega arith
-
       pub end_never : {end : List ℕ} {e : Refusal} → Unended t left end e → ⊥
       end_never u =
           let k = (a.grown [] (took_none p)).took in
@@ -106,9 +88,6 @@ module _ (p : Plan) (lawful : LawfulPlan p) (m : List ℕ) (some : 0 < length m)
         last_size =
             let k = (a.grown [] (took_none p)).took in
             (e.final m k).size_is ∙ ap (λ y. size_of (final_packet y m)) a.same_plan
-
-        pub last_within : n * full_size p + last ≤ length new
-        last_within = let f = full_fits in let ls = last_size in let ci = ap (λ k. k * full_size p) count_is in omega arith
 
         pub whole_written : (new2 : List ℕ) → new2 ≡ put_mid (n * full_size p) (length new - n * full_size p) new end → MessageWritten p m was new2 (n * full_size p + last)
         whole_written new2 b =
@@ -131,8 +110,6 @@ module _ (p : Plan) (lawful : LawfulPlan p) (m : List ℕ) (some : 0 < length m)
             let cw = cuts_within in
             let K = sure p.cut (length m) in
             let ci = ap (λ i. i * full_size p) count_is in
-            let d : K * full_size p ≡ K * 32 + K * p.cut = mul-add K 32 p.cut in
-            let g : (K + 1) * 32 ≡ K * 32 + 32 = omega arith in
             let size : at + last ≡ length (message_bytes p m) = omega arith in
             record {
               some_message = some;

@@ -1,5 +1,5 @@
 -- How a run of packets is made from one body and the bytes that follow it.
-use Rattle.std.specs.Prelude.{ℕ, ◌+◌, ◌*◌, List, ◌++◌, map, length, take, drop}
+use Rattle.std.specs.Prelude.{ℕ, ◌+◌, ◌*◌, ◌/◌, List, ◌++◌, map, length, take, drop}
 use Rattle.std.specs.List.{range_with_len}
 use Rattle.packet.specs.Packets.{PacketValue}
 
@@ -17,3 +17,7 @@ packet_after v rest j = record {
 -- v and the packets after it, n in all
 abbrev pub run_of : PacketValue → List ℕ → ℕ → List PacketValue
 run_of v rest n = map (packet_after v rest) (range_with_len 0 n)
+
+-- how many packets v and the whole cuts of `rest` make
+abbrev pub run_length : PacketValue → List ℕ → ℕ
+run_length v rest = length rest / length v.body + 1

@@ -1,22 +1,23 @@
 // The ids of messages. No two tickets of an issuer have the same id.
-ghost use Rattle.std.specs.Prelude.{◌≡◌, MatchResult};
+ghost use Rattle.std.specs.Prelude.{◌≡◌, length, MatchResult};
+ghost use Rattle.sender.specs.Limits.{id_length};
 ghost use Rattle.sender.specs.Ids.{id_of, IdsDiffer, issuing, new_issuing, Issued, Unissued, IssuesInOrder};
 
 use crate::limits::{ID_LENGTH, SERIAL_COUNT};
-use crate::refusal::refused;
-use wire::refusal::{Fault, Refusal};
+use wire::refusal::{Fault, Layer, Refusal};
 
 /// Gives the ids of one node's messages, each once.
-#[derive(Drop)]
+#[derive(Debug, PartialEq, Eq, Drop)]
 pub struct Issuer {
     node: u64,
     next: u64,
 }
 
 /// An id that no message has yet. Who sends a message uses it up.
-#[derive(Drop)]
+#[derive(Debug, PartialEq, Eq, Drop)]
 pub struct Ticket {
-    id: [u8; ID_LENGTH],
+    pub(crate) id: [u8; ID_LENGTH],
+    ghost id_size: { length id ≡ id_length },
 }
 
 // The id of a node's message: the node, then the serial, the most significant byte of each first.
@@ -45,7 +46,7 @@ impl Issuer {
             (λ e. Unissued (issuing self.old) e (issuing self.new)) }
     {
         if self.next >= SERIAL_COUNT {
-            return Err(refused(Fault::SerialsSpent));
+            return Err(Layer::Sender.refusal(Fault::SerialsSpent, 0));
         }
         let id = id_of(self.node, self.next as u32);
         self.next += 1;

@@ -8,5 +8,4 @@ pub mod limits;
 pub mod message;
 pub mod open;
 mod parts;
-mod refusal;
 mod state;

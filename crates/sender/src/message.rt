@@ -7,11 +7,10 @@ use crate::ids::Ticket;
 use crate::length::BodyLength;
 use crate::limits::FRONT_LENGTH;
 use crate::open::OpenSender;
-use crate::refusal::refused;
-use wire::limits::MAX_PACKETS;
 use wire::order::ByteOrder;
-use wire::refusal::{Fault, Refusal};
+use wire::refusal::{Fault, Layer, Refusal};
 
+// No struct of `length`, `ticket` and `order`: a caller would make it for this one call.
 /// Writes all packets of a message, one after the other from the buffer's start, and answers how many bytes
 /// they have. A refused message changes nothing but that its ticket is used up.
 pub fn write_message(
@@ -22,28 +21,24 @@ pub fn write_message(
     buffer: &mut [u8],
 ) -> Result<usize, Refusal>
     ensures { MatchResult result
-        (λ n. MessageWritten (plan_by length.value ticket.id order) message.now buffer.old buffer.new n)
-        (λ e. MessageUnwritten (plan_by length.value ticket.id order) message.now buffer.old buffer.new e) }
+        (λ n. MessageWritten (plan_by length.value ticket.id order) message.now
+        buffer.old buffer.new n)
+        (λ e. MessageUnwritten (plan_by length.value ticket.id order) message.now
+        buffer.old buffer.new e) }
 {
-    let cut = length.value();
-    if message.len() > MAX_PACKETS as usize * cut {
-        return Err(refused(Fault::MessageLength));
+    if message.len() > length.longest_message() {
+        return Err(Layer::Sender.refusal(Fault::MessageLength, 0));
     }
     if message.is_empty() {
-        return Err(refused(Fault::EmptyMessage));
+        return Err(Layer::Sender.refusal(Fault::EmptyMessage, 0));
     }
-    // each packet but the last is full
-    let full = (message.len() - 1) / cut;
+    let full = length.sure(message.len());
     if buffer.len() < (full + 1) * FRONT_LENGTH + message.len() {
-        return Err(refused(Fault::BufferLength));
+        return Err(Layer::Sender.refusal(Fault::BufferLength, 0));
     }
     let mut sender = OpenSender::begin(length, ticket, order);
-    let Ok(count) = sender.add(message, buffer) else {
-        unreachable()
-    };
-    let at = count * (FRONT_LENGTH + cut);
-    let Ok(last) = sender.close().write_final(&mut buffer[at..]) else {
-        unreachable()
-    };
+    let count = sender.add(message, buffer).unwrap();
+    let at = count * (FRONT_LENGTH + length.value);
+    let last = sender.close().write_final(&mut buffer[at..]).unwrap();
     Ok(at + last)
 }

@@ -1,6 +1,8 @@
-use Rattle.std.proofs.Common.{refl}
 use Rattle.sender.proofs.Issues.{ids_differ, issues_in_order}
 use Rattle.sender.proofs.ids.Issuer.new.Goals as goal
 
-pub returns : goal.returns
-returns c = record { fresh = refl; in_order = issues_in_order; ids_differ = ids_differ }
+pub returns-clause-in_order : goal.returns-clause-in_order
+returns-clause-in_order c = issues_in_order
+
+pub returns-clause-ids_differ : goal.returns-clause-ids_differ
+returns-clause-ids_differ c = ids_differ
