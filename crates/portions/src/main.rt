@@ -4,12 +4,29 @@
 use sender::ids::Issuer;
 use sender::length::BodyLength;
 use sender::open::OpenSender;
-use std::io;
+use std::{fmt, io};
 use wire::order::ByteOrder;
 use wire::refusal::Refusal;
 
-// Sends two loads, and answers how many packets went out before their last, and how long the last ones are.
-fn send_two(buffer: &mut [u8]) -> Result<(usize, usize, usize, usize), Refusal> {
+// What went out of a load: how many packets before its last, and how long the last is.
+#[derive(Clone, Copy)]
+struct Sent {
+    packets: usize,
+    last: usize,
+}
+
+impl fmt::Display for Sent {
+    fn fmt<W: fmt::Write>(&self, f: &mut fmt::Formatter<W>) -> fmt::Result {
+        write!(
+            f,
+            "{} packet and a last one of {} bytes",
+            self.packets, self.last
+        )
+    }
+}
+
+// Sends two loads.
+fn send_two(buffer: &mut [u8]) -> Result<(Sent, Sent), Refusal> {
     let length = BodyLength::new(16)?;
     let mut issuer = Issuer::new(7);
     let ticket = issuer.issue()?;
@@ -19,21 +36,24 @@ fn send_two(buffer: &mut [u8]) -> Result<(usize, usize, usize, usize), Refusal> 
     let early = hoist.add(b"hoist 4 to 3.20 m, ", buffer)?;
     let closed = hoist.close();
     let later = border.add(b"border 2 to 7.05 m, slowly", buffer)?;
-    let last = closed.write_final(buffer)?;
-    let other_last = border.close().write_final(buffer)?;
-    Ok((early, last, later, other_last))
+    let first = Sent {
+        packets: early,
+        last: closed.write_final(buffer)?,
+    };
+    let second = Sent {
+        packets: later,
+        last: border.close().write_final(buffer)?,
+    };
+    Ok((first, second))
 }
 
 fn main(rt: HostRuntime) -> io::Result<()> {
     let mut buffer = [0; 256];
     match send_two(&mut buffer) {
-        Ok((early, last, later, other_last)) => {
-            println!(rt; "hoist {early} packet and a last one of {last} bytes")?;
-            println!(rt; "border {later} packet and a last one of {other_last} bytes")
+        Ok((hoist, border)) => {
+            println!(rt; "hoist {hoist}")?;
+            println!(rt; "border {border}")
         }
-        Err(refusal) => {
-            let number = refusal.fault.number();
-            println!(rt; "refused {number}")
-        }
+        Err(refusal) => println!(rt; "refused {}", refusal.fault),
     }
 }
