@@ -3,7 +3,7 @@
 
 ghost use Rattle.std.specs.Prelude.{◌≤◌, IfOk, vec_len};
 
-use anyhow::{Context, anyhow, bail};
+use anyhow::{Context, bail};
 use packet::MAX_DATAGRAM;
 use records::walk::{Visitor, visit_all};
 use sender::ids::Issuer;
@@ -74,19 +74,11 @@ impl<W: Write + Drop, E: Eprint + Drop> Visitor for Loads<W, E> {
     }
 }
 
-fn byte_order(word: &str) -> anyhow::Result<ByteOrder> {
-    match word {
-        "big" => Ok(ByteOrder::Big),
-        "little" => Ok(ByteOrder::Little),
-        _ => Err(anyhow!(USAGE)),
-    }
-}
-
 fn body_length(word: &str) -> anyhow::Result<BodyLength> {
-    match BodyLength::new(word.parse::<usize>().ok().context(USAGE)?) {
-        Ok(length) => Ok(length),
-        Err(_) => Err(anyhow!("L refused 8: not a multiple of 8 from 16 to 1440")),
-    }
+    let length = word.parse::<usize>().ok().context(USAGE)?;
+    BodyLength::new(length)
+        .ok()
+        .context("L refused 8: not a multiple of 8 from 16 to 1440")
 }
 
 fn run(rt: &HostRuntime) -> anyhow::Result<()> {
@@ -101,7 +93,7 @@ fn run(rt: &HostRuntime) -> anyhow::Result<()> {
     let mut loads = Loads {
         issuer: Issuer::new(node.as_str().parse::<u64>().ok().context(USAGE)?),
         length: body_length(length.as_str())?,
-        order: byte_order(order.as_str())?,
+        order: order.as_str().parse::<ByteOrder>().ok().context(USAGE)?,
         packets: vec![in rt.alloc(); 0; ROOM]?,
         out: BufWriter::new(rt.alloc(), rt.stdout())?,
         errors: rt.clone()?,
