@@ -1,12 +1,11 @@
 -- An arrival as a step.
-use Rattle.std.proofs.Common.{◌≡◌, ℕ, ◌+◌, ◌-◌, ◌<◌, ◌≤◌, min, Bool, false, cond, List, ◌∷◌, take, set, sym, refl, ap, ◌∙◌, subst, inl, inr, arith}
+use Rattle.std.proofs.Common.{◌≡◌, ℕ, ◌+◌, ◌-◌, ◌<◌, min, Bool, false, cond, List, ◌∷◌, set, Some, sym, refl, ap, ◌∙◌, subst, inl, inr, arith}
 use Rattle.std.proofs.lemmas.Bool.{cases_Bool}
 use Rattle.wire.specs.Limits.{max_slots}
 use Rattle.wire.specs.Refusals.{fault_number}
 use Rattle.wire.specs.declared.refusal.Refusal.{Refusal}
 use Rattle.shelf.specs.Pieces.{Pieces}
 use Rattle.shelf.specs.Units.{Tidy, free_units}
-use Rattle.packet.specs.Limits.{max_id}
 use Rattle.packet.specs.Packets.{PacketValue, Encodes}
 use Rattle.packet.specs.Datagrams.{Refused}
 use Rattle.collection.specs.Fragments.{FragmentValue}
@@ -15,22 +14,23 @@ use Rattle.history.specs.Stays.{Stay, Standing, fresh, more, outside, inside, st
 use Rattle.history.specs.Answers.{PacketAnswer, PacketAnswerAt, PacketDue, ArrivalDue, readable, unreadable}
 use Rattle.history.proofs.Standings.{same_or, stands_one, carries_one}
 use Rattle.history.proofs.Answers.{hears_is}
-use Rattle.receiver.specs.declared.slot.Slot.{Slot}
-use Rattle.receiver.specs.declared.slot.Phase.{Phase}
-use Rattle.receiver.specs.Slots.{used, name_in, Bears, Reflects, Mirrors, Sits, at}
+use Rattle.receiver.specs.declared.stay.Stay.{Stay as SlotStay}
+use Rattle.receiver.specs.declared.stay.Phase.{Phase}
+use Rattle.receiver.specs.Slots.{Slot, used, id_bytes, name_in, Reflects, Mirrors, Keeps, Sits, at}
 use Rattle.receiver.specs.Tables.{Lent, Seen, Explains, KeepsSlots}
 use Rattle.receiver.specs.Parts.{Home, Crowded, Begun, PacketEffect}
 use Rattle.receiver.proofs.Rows.{row_none}
-use Rattle.receiver.proofs.Changes.{found, one_step, one_keeps, quiet_step, sits_same}
+use Rattle.receiver.proofs.Changes.{within, found, one_step, one_keeps, quiet_step, sits_same}
 use Rattle.receiver.proofs.Collections.{listing, all_used, one_free}
 
--- the slot as the packet finds it mirrors the stay, and bears the id
-pub begins : (unit p : ℕ) (id : List ℕ) (y : Standing) (old begun : Slot) (piece : ℕ → List ℕ) → 0 < unit → Sits unit p id y old piece → Begun old id begun → Mirrors unit (stay_of y) begun piece × Bears begun id
+-- the stay as the packet finds it is that of the id
+pub begins : (unit p : ℕ) (id : List ℕ) (y : Standing) (old : Slot) (begun : SlotStay) (piece : ℕ → List ℕ) → 0 < unit → Sits unit p id y old piece → Begun old id begun → Mirrors unit (stay_of y) begun piece × (id_bytes begun.id ≡ id)
 begins unit p id outside old begun piece some si b =
-    (subst (λ (f : Phase). Reflects f unit fresh begun.summary piece) (sym (b.phased si.0)) (refl, b.empty si.0 piece si.1, row_none unit piece some si.1), b.named si.0)
+    let x = b.empty si.0 in
+    (subst (λ (f : Phase). Reflects f unit fresh piece) (sym x.1) (refl, x.2 piece si.1, row_none unit piece some si.1), b.named si.0)
 begins unit p id (inside l) old begun piece some si b =
-    let e : begun ≡ old = b.old si.0.0 in
-    (subst (λ (x : Slot). Mirrors unit l x piece) (sym e) si.1.0, subst (λ (x : Slot). Bears x id) (sym e) si.0)
+    let e : old ≡ Some begun = b.old si.0.0 in
+    ((subst (λ (x : Slot). Keeps unit p l x piece) e si.1).0, sym (ap name_in e) ∙ si.0.1)
 
 pub greets : (unit count free p : ℕ) (id : List ℕ) (q : FragmentValue) (y : Standing) (r : Reply) (old : Slot) (piece : ℕ → List ℕ) → Sits unit p id y old piece → (used old ≡ false → count < max_slots) → PacketAnswer unit free q (stay_of y) r → PacketAnswerAt unit count free q y r
 greets unit count free p id q outside r old piece si few d = inr (few si.0, d)
@@ -41,7 +41,7 @@ arrive_frame : (p : ℕ) (xs id : List ℕ) (q : FragmentValue) → Carries xs i
 arrive_frame p xs id q carries r i ne x = inr (λ q' c. ne (carries_one xs id i q q' carries c).0, refl)
 
 -- the packet goes into the slot k
-module _ (h : History) (s : Seen) (ex : Explains h s) (xs id : List ℕ) (q : FragmentValue) (carries : Carries xs id q) (k : ℕ) (home : Home s.slots id k) (r : Reply) (begun new : Slot) (piece' : Pieces)
+module _ (h : History) (s : Seen) (ex : Explains h s) (xs id : List ℕ) (q : FragmentValue) (carries : Carries xs id q) (k : ℕ) (home : Home s.slots id k) (r : Reply) (begun : SlotStay) (new : Slot) (piece' : Pieces)
     (is_begun : Begun (at s.slots k) id begun)
     (heeds : (l : Stay) → 0 < s.terms.unit → Mirrors s.terms.unit l begun (s.piece k) → PacketEffect s.terms.unit (free_units s.terms.unit s.terms.capacity s.piece) l q r (at s.slots k) begun new (s.piece k) (piece' k))
     (others : (t m : ℕ) → (t ≡ k → ⊥) → piece' t m ≡ s.piece t m) (tidy : Tidy s.terms.unit s.terms.capacity piece') where
@@ -52,7 +52,7 @@ module _ (h : History) (s : Seen) (ex : Explains h s) (xs id : List ℕ) (q : Fr
   unfolding standing
   was = ((found h s ex id k home).1, (found h s ex id k home).2)
 
-  start : Mirrors s.terms.unit (stay_of standing) begun (s.piece k) × Bears begun id
+  start : Mirrors s.terms.unit (stay_of standing) begun (s.piece k) × (id_bytes begun.id ≡ id)
   start = begins _ _ id standing (at s.slots k) begun (s.piece k) ex.tidy.unit_some was.1 is_begun
 
   heeded : PacketEffect s.terms.unit (free_units s.terms.unit s.terms.capacity s.piece) (stay_of standing) q r (at s.slots k) begun new (s.piece k) (piece' k)
@@ -67,7 +67,7 @@ module _ (h : History) (s : Seen) (ex : Explains h s) (xs id : List ℕ) (q : Fr
         stays = li.0;
         listed = li.1;
         due = greets _ _ _ _ id q standing r (at s.slots k) (s.piece k) was.1
-            (λ f. omega (arith, li.3, one_free s.slots max_slots k (omega (arith, home.within, ex.all_slots)) f))
+            (λ f. omega (arith, li.3, one_free s.slots max_slots k (within h s ex id k home) f))
             (subst (λ (n : ℕ). PacketAnswer s.terms.unit (s.terms.capacity - n) q (stay_of standing) r) (sym li.2) heeded.due);
       }
 
@@ -84,10 +84,9 @@ module _ (h : History) (s : Seen) (ex : Explains h s) (xs id : List ℕ) (q : Fr
       elim (cases_Bool (audible r)) [
         | inl t ↦
             let x = heeded.heard t in
-            let name : name_in new ≡ name_in begun = ap (λ (n : ℕ). take n new.id) x.1 ∙ ap (λ (n : List ℕ). take begun.id_length n) x.0 in
-            let b : Bears new id = (x.2, subst (λ (n : ℕ). n ≤ max_id) (sym x.1) start.1.1, name ∙ start.1.2) in
             let z : becomes ≡ inside (more q (stay_of standing)) = ap (λ (w : Bool). cond w (inside (more q (stay_of standing))) standing) (e ∙ t) in
-            subst (λ (w : Standing). Sits s.terms.unit s.terms.patience id w new (piece' k)) (sym z) (b, (x.4, omega (arith, x.3)))
+            subst (λ (w : Standing). Sits s.terms.unit s.terms.patience id w new (piece' k)) (sym z)
+            (subst (λ (w : Slot). Sits s.terms.unit s.terms.patience id (inside (more q (stay_of standing))) w (piece' k)) (sym x.1) ((refl, ap id_bytes x.2 ∙ start.1), (x.4, omega (arith, x.3))))
         | inr f ↦
             let x = heeded.unheard f in
             let z : becomes ≡ standing = ap (λ (w : Bool). cond w (inside (more q (stay_of standing))) standing) (e ∙ f) in
@@ -108,7 +107,7 @@ module _ (h : History) (s : Seen) (ex : Explains h s) (xs id : List ℕ) (q : Fr
 -- no slot is left
 module _ (h : History) (s : Seen) (ex : Explains h s) (xs id : List ℕ) (q : FragmentValue) (carries : Carries xs id q) (crowded : Crowded s.slots id) (r : Reply) (is : r ≡ refused_by 21) where
   left_out : Stands s.terms.patience h id outside
-  left_out = ex.absent id (λ k lt b. crowded.none k (omega (arith, ex.all_slots)) b)
+  left_out = ex.absent id (λ k lt b. crowded.1 k (omega (arith, ex.all_slots)) b)
 
   pub crowd_due : ArrivalDue s.terms h xs r
   crowd_due =
@@ -118,7 +117,7 @@ module _ (h : History) (s : Seen) (ex : Explains h s) (xs id : List ℕ) (q : Fr
         stands = left_out;
         stays = li.0;
         listed = li.1;
-        due = inl (omega (arith, li.3, all_used s.slots max_slots (λ k lt. crowded.full k (omega (arith, ex.all_slots)))), is);
+        due = inl (omega (arith, li.3, all_used s.slots max_slots (λ k lt. crowded.0 k (omega (arith, ex.all_slots)))), is);
       })
 
   pub crowd_step : (n : ℕ) → n ≡ min (s.refused + cond (accepted r) 0 1) most_refusals → (lent : Lent)

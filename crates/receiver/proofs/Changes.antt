@@ -1,16 +1,15 @@
 -- How one call changes the table.
-use Rattle.std.proofs.Common.{◌≡◌, ℕ, ◌+◌, ◌<◌, min, ◌⊎◌, List, ◌∷◌, set, sym, refl, ap, ◌∙◌, subst, inl, inr, arith, length-set, get_or-set_other, get_or-set_same}
+use Rattle.std.proofs.Common.{◌≡◌, ℕ, ◌+◌, ◌<◌, min, ◌⊎◌, List, ◌∷◌, set, None, sym, refl, ap, ◌∙◌, subst, inl, inr, arith, length-set, get_or-set_other, get_or-set_same}
 use mathlib.Core.Path.{fun_ext}
 use base.Fml.{GName}
-use Rattle.std.proofs.lemmas.Bool.{cases_eq, cases_Bool, true≢false}
+use Rattle.std.proofs.lemmas.Bool.{cases_eq, true≢false}
 use Rattle.wire.specs.Limits.{max_slots}
 use Rattle.shelf.specs.Pieces.{Pieces}
 use Rattle.shelf.specs.Units.{Tidy}
 use Rattle.history.specs.Calls.{Call, Reply, History, refusals_in, refusals, most_refusals}
 use Rattle.history.specs.Stays.{Terms, Standing, outside, inside, After, Stands}
 use Rattle.history.proofs.Standings.{same_or}
-use Rattle.receiver.specs.declared.slot.Slot.{Slot}
-use Rattle.receiver.specs.Slots.{used, Bears, Sits, Seat, no_slot, at}
+use Rattle.receiver.specs.Slots.{Slot, Bears, Sits, Seat, at}
 use Rattle.receiver.specs.Tables.{Lent, Seen, Explains, KeepsSlots}
 use Rattle.receiver.specs.Parts.{Home}
 
@@ -20,7 +19,7 @@ seat_of unit p h id (inside l) s pc st si = inr (id, l, si.0, st, si.1)
 
 sits_name : (unit p : ℕ) (id : List ℕ) (z : Standing) (s : Slot) (pc : ℕ → List ℕ) → Sits unit p id z s pc → (i : List ℕ) → Bears s i → i ≡ id
 sits_name unit p id outside s pc si i b = absurd (true≢false (sym b.0 ∙ si.0))
-sits_name unit p id (inside l) s pc si i b = sym b.2 ∙ si.0.2
+sits_name unit p id (inside l) s pc si i b = sym b.1 ∙ si.0.1
 
 out_or : (unit p : ℕ) (id : List ℕ) (z : Standing) (s : Slot) (pc : ℕ → List ℕ) → Sits unit p id z s pc → (z ≡ outside) ⊎ Bears s id
 out_or unit p id outside s pc si = inl refl
@@ -31,25 +30,25 @@ pub sits_same : (unit p : ℕ) (id : List ℕ) (z : Standing) (s s' : Slot) (pc 
 sits_same unit p id z s s' pc pc' e f si = subst (λ (x : Slot). Sits unit p id z x pc') (sym e) (subst (λ (x : ℕ → List ℕ). Sits unit p id z s x) (sym (fun_ext f)) si)
 
 module _ (h : History) (s : Seen) (ex : Explains h s) (id : List ℕ) (k : ℕ) (home : Home s.slots id k) where
-  within : k < max_slots
-  within = omega (arith, home.within, ex.all_slots)
+  pub within : k < max_slots
+  within = omega (arith, home.0, ex.all_slots)
 
   -- how id stands
   pub found : (y : Standing) × Stands s.terms.patience h id y × Sits s.terms.unit s.terms.patience id y (at s.slots k) (s.piece k)
-  found = elim (ex.seats k within) [
-    | inl d ↦ (outside, ex.absent id (λ j lt b. home.only d.0 j (omega (arith, ex.all_slots)) b), d)
-    | inr x ↦
-        let m = home.mine x.2.0 in
-        let e : x.0 ≡ id = sym x.2.2 ∙ m.2 in
-        (inside x.1, subst (λ (i : List ℕ). Stands s.terms.patience h i (inside x.1)) e x.3, (m, x.4))
+  found = elim home.1 [
+    | inl own ↦ elim (ex.seats k within) [
+      | inl d ↦ absurd (true≢false (sym own.0 ∙ d.0))
+      | inr x ↦ (inside x.1, subst (λ (i : List ℕ). Stands s.terms.patience h i (inside x.1)) (sym x.2.1 ∙ own.1) x.3, (own, x.4))
+    ]
+    | inr free ↦ elim (ex.seats k within) [
+      | inl d ↦ (outside, ex.absent id (λ j lt b. free.1 j (omega (arith, ex.all_slots)) b), d)
+      | inr x ↦ absurd (true≢false (sym x.2.0 ∙ free.0))
+    ]
   ]
 
   -- another slot does not hold id
   elsewhere : (j : ℕ) → j < max_slots → (j ≡ k → ⊥) → Bears (at s.slots j) id → ⊥
-  elsewhere j lt ne b = elim (cases_Bool (used (at s.slots k))) [
-    | inl t ↦ ne (ex.apart j k id lt within b (home.mine t))
-    | inr f ↦ home.only f j (omega (arith, ex.all_slots)) b
-  ]
+  elsewhere j lt ne b = elim home.1 [ inl own ↦ ne (ex.apart j k id lt within b own) | inr free ↦ free.1 j (omega (arith, ex.all_slots)) b ]
 
   module _ (c : Call) (r : Reply) (y z : Standing) (stands : Stands s.terms.patience h id y) (after : After s.terms.patience c r id y z)
       (frame : (i : List ℕ) → (id ≡ i → ⊥) → (x : Standing) → After s.terms.patience c r i x x)
@@ -60,10 +59,10 @@ module _ (h : History) (s : Seen) (ex : Explains h s) (id : List ℕ) (k : ℕ) 
     next = record { call = c; reply = r } ∷ h
 
     here : at (set s.slots k s') k ≡ s'
-    here = get_or-set_same s.slots k s' no_slot (omega (arith, ex.all_slots, within))
+    here = get_or-set_same s.slots k s' None (omega (arith, ex.all_slots, within))
 
     other : (j : ℕ) → (j ≡ k → ⊥) → at (set s.slots k s') j ≡ at s.slots j
-    other j ne = get_or-set_other s.slots k j s' no_slot ne
+    other j ne = get_or-set_other s.slots k j s' None ne
 
     now_stands : Stands s.terms.patience next id z
     now_stands = (y, stands, after)
@@ -105,7 +104,7 @@ module _ (h : History) (s : Seen) (ex : Explains h s) (id : List ℕ) (k : ℕ) 
         | inr ne ↦ (
           outside,
           ex.absent i (λ j lt b. elim (cases_eq j k) [
-            | inl f ↦ let b' : Bears (at s.slots k) i = subst (λ (n : ℕ). Bears (at s.slots n) i) f b in ne (sym (home.mine b'.0).2 ∙ b'.2)
+            | inl f ↦ let b' : Bears (at s.slots k) i = subst (λ (n : ℕ). Bears (at s.slots n) i) f b in elim home.1 [ inl own ↦ ne (sym own.1 ∙ b'.1) | inr free ↦ true≢false (sym b'.0 ∙ free.0) ]
             | inr nf ↦ none j lt (subst (λ (x : Slot). Bears x i) (sym (other j nf)) b)
           ]),
           frame i ne outside,

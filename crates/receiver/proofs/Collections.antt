@@ -5,23 +5,24 @@ use Rattle.wire.specs.Limits.{max_slots}
 use Rattle.shelf.specs.Sums.{total}
 use Rattle.shelf.specs.Units.{units_held}
 use Rattle.shelf.proofs.Totals.{total_more, total_zero}
-use Rattle.collection.specs.declared.summary.Summary.{Summary}
 use Rattle.history.specs.Calls.{History}
 use Rattle.history.specs.Stays.{Stay, outside, inside, Stands, Weighs, Placed, Among, Apart, units_of, Stays}
 use Rattle.history.proofs.Standings.{same_or, stands_one, out_in}
-use Rattle.receiver.specs.declared.slot.Slot.{Slot}
-use Rattle.receiver.specs.declared.slot.Phase.{Phase}
-use Rattle.receiver.specs.declared.slot.Phase.TheVariants.{Free, Sound, Spoiled, Fetched}
-use Rattle.receiver.specs.Slots.{used, name_in, Bears, row, Reflects, at}
+use Rattle.receiver.specs.declared.stay.Phase.{Phase}
+use Rattle.receiver.specs.declared.stay.Phase.TheVariants.{Sound, Spoiled, Fetched}
+use Rattle.receiver.specs.Slots.{Slot, used, name_in, Bears, row, Reflects, Keeps, at}
 use Rattle.receiver.specs.Tables.{Seen, Explains}
 use Rattle.receiver.proofs.Rows.{row_none}
+use Rattle.receiver.proofs.Slots.{kept_in}
 
 -- a slot's pieces cost what its stay takes
-weighs_of : (f : Phase) (unit : ℕ) (l : Stay) (c : Summary) (piece : ℕ → List ℕ) → 0 < unit → Reflects f unit l c piece → Weighs unit l (row unit piece)
-weighs_of Free unit l c piece some m = absurd m
-weighs_of Sound unit l c piece some m = inl (m.0, m.1.calm, m.2)
-weighs_of Spoiled unit l c piece some m = inr (inr m.1, row_none unit piece some m.2)
-weighs_of Fetched unit l c piece some m = inr (inl m.0, row_none unit piece some m.1)
+phase_weighs : (f : Phase) (unit : ℕ) (l : Stay) (piece : ℕ → List ℕ) → 0 < unit → Reflects f unit l piece → Weighs unit l (row unit piece)
+phase_weighs (Sound c) unit l piece some m = inl (m.0, m.1.calm, m.2)
+phase_weighs Spoiled unit l piece some m = inr (inr m.1, row_none unit piece some m.2)
+phase_weighs Fetched unit l piece some m = inr (inl m.0, row_none unit piece some m.1)
+
+weighs_of : (unit p : ℕ) (l : Stay) (s : Slot) (piece : ℕ → List ℕ) → 0 < unit → Keeps unit p l s piece → Weighs unit l (row unit piece)
+weighs_of unit p l s piece some m = let x = kept_in unit p l s piece m in phase_weighs x.0.phase unit l piece some x.2
 
 abbrev pub uses : List Slot → ℕ → ℕ
 uses slots n = cond (used (at slots n)) 1 0
@@ -71,7 +72,7 @@ collect h s ex (suc n) le =
             record {
               apart = (λ z i e. let y = o.from z i in let m = ex.apart y.0 n x.0 (omega (arith, y.1)) (omega arith) (subst (λ (w : List ℕ). Bears (at s.slots y.0) w) e y.2) x.2 in omega (arith, y.1, m), o.apart);
               each = λ z i. elim i [
-                | inl e ↦ subst (λ (w : Placed). Stands s.terms.patience h w.name (inside w.stay) × Weighs s.terms.unit w.stay w.units) (sym e) (x.3, weighs_of _ _ _ _ _ ex.tidy.unit_some x.4.0)
+                | inl e ↦ subst (λ (w : Placed). Stands s.terms.patience h w.name (inside w.stay) × Weighs s.terms.unit w.stay w.units) (sym e) (x.3, weighs_of _ _ _ _ _ ex.tidy.unit_some x.4)
                 | inr j ↦ o.each z j
               ];
               from = λ z i. elim i [
@@ -79,7 +80,7 @@ collect h s ex (suc n) le =
                 | inr j ↦ let y = o.from z j in (y.0, omega (arith, y.1), y.2)
               ];
               to = λ k id lt b. elim (cases_eq k n) [
-                | inl e ↦ (me, inl refl, sym x.2.2 ∙ ap (λ (m : ℕ). name_in (at s.slots m)) (sym e) ∙ b.2)
+                | inl e ↦ (me, inl refl, sym x.2.1 ∙ ap (λ (m : ℕ). name_in (at s.slots m)) (sym e) ∙ b.1)
                 | inr ne ↦ let y = o.to k id (omega (arith, ne)) b in (y.0, inr y.1, y.2)
               ];
               units = omega (arith, o.units, total_more (λ (k : ℕ). row s.terms.unit (s.piece k)) n);

@@ -1,11 +1,11 @@
 -- A packet in a slot.
-use Rattle.std.proofs.Common.{◌≡◌, ℕ, ◌+◌, ◌<◌, ◌≤◌, Bool, true, false, cond, List, [], ◌∷◌, length, sym, refl, ap, ◌∙◌, subst, inl, inr, arith}
+use Rattle.std.proofs.Common.{◌≡◌, ℕ, ◌+◌, ◌<◌, ◌≤◌, Bool, true, false, cond, List, [], ◌∷◌, length, Some, sym, refl, ap, ◌∙◌, subst, inl, inr, arith}
 use Rattle.std.proofs.lemmas.Bool.{cases_Bool, true≢false, false≢true}
 use Rattle.wire.specs.declared.refusal.Refusal.{Refusal}
 use Rattle.shelf.specs.Units.{cost}
 use Rattle.numbers.proofs.Digits.{has_not}
 use Rattle.collection.specs.Fragments.{FragmentValue, Ranged, Heard}
-use Rattle.collection.specs.Kept.{Open, Related, Taken, PiecePut}
+use Rattle.collection.specs.Kept.{Open, Related, PiecePut}
 use Rattle.collection.specs.declared.summary.Summary.{Summary}
 use Rattle.collection.specs.declared.summary.Relation.TheVariants.{New, Repeated, Contradicts}
 use Rattle.collection.proofs.Pinning.{calm_more}
@@ -13,11 +13,12 @@ use Rattle.history.specs.Calls.{Reply, refused_by, audible, repeated, kept, comp
 use Rattle.history.specs.Stays.{Stay, numbered, weight, more}
 use Rattle.history.specs.Answers.{PacketAnswer, after_fetch, after_spoil, contradicts, again, no_room, completes, goes_on}
 use Rattle.history.proofs.Numbers.{in_numbered, numbered_in}
-use Rattle.receiver.specs.declared.slot.Slot.{Slot}
-use Rattle.receiver.specs.declared.slot.Phase.TheVariants.{Sound, Spoiled, Fetched}
+use Rattle.receiver.specs.declared.stay.Stay.{Stay as SlotStay}
+use Rattle.receiver.specs.declared.stay.Phase.{Phase}
+use Rattle.receiver.specs.declared.stay.Phase.TheVariants.{Sound, Spoiled, Fetched}
 use Rattle.receiver.specs.declared.answers.Outcome.{Outcome}
 use Rattle.receiver.specs.declared.answers.Outcome.TheVariants as outcome
-use Rattle.receiver.specs.Slots.{Reflects, Mirrors, Bare, row, used}
+use Rattle.receiver.specs.Slots.{Slot, Reflects, Mirrors, Bare, row}
 use Rattle.receiver.specs.Replies.{outcome_reply, refusal_reply}
 use Rattle.receiver.specs.Parts.{ReceiverRefusal, PacketEffect, Completes, turned_to}
 use Rattle.receiver.proofs.Rows.{row_put, row_same}
@@ -33,46 +34,36 @@ unheard_bare ps s piece o n not = o.bare n (has_not s.heard n (λ h. not (o.hear
 pub not_numbered : (n : ℕ) (ps : List FragmentValue) → (Heard ps n → ⊥) → numbered n ps ≡ false
 not_numbered n ps not = elim (cases_Bool (numbered n ps)) [ inl t ↦ absurd (not (numbered_in n ps t)) | inr f ↦ f ]
 
-module _ (unit free : ℕ) (l : Stay) (q : FragmentValue) (old begun : Slot) (piece piece' : ℕ → List ℕ) where
-  -- a packet that is heard turns the slot, and sets its age to 0
-  turns : (r : Reply) (new : Slot) (c : Summary) → new ≡ turned_to Sound c begun → Reflects Sound unit (more q l) c piece' → PacketAnswer unit free q l r → audible r ≡ true → PacketEffect unit free l q r old begun new piece piece'
-  turns r new c is m due heard = record {
+module _ (unit free : ℕ) (l : Stay) (q : FragmentValue) (old : Slot) (begun : SlotStay) (piece piece' : ℕ → List ℕ) where
+  -- a packet that is heard turns the stay, and sets its age to 0
+  turns : (r : Reply) (t : SlotStay) (f : Phase) → t ≡ turned_to f begun → Reflects f unit (more q l) piece' → PacketAnswer unit free q l r → audible r ≡ true → PacketEffect unit free l q r old begun (Some t) piece piece'
+  turns r t f is m due heard = record {
     due = due;
-    unheard = λ f. absurd (true≢false (sym heard ∙ f));
-    heard = λ _. (ap (λ (x : Slot). x.id) is, ap (λ (x : Slot). x.id_length) is, ap used is, ap (λ (x : Slot). x.age) is, subst (λ (x : Slot). Mirrors unit (more q l) x piece') (sym is) m);
+    unheard = λ no. absurd (true≢false (sym heard ∙ no));
+    heard = λ _. (t, refl, ap (λ (x : SlotStay). x.id) is, ap (λ (x : SlotStay). x.age) is, subst (λ (x : SlotStay). Mirrors unit (more q l) x piece') (sym is) m);
   }
 
-  module _ (sound : Reflects Sound unit l begun.summary piece) (some : 0 < unit) (ranged : Ranged q) where
+  module _ (was : Summary) (sound : Reflects (Sound was) unit l piece) (some : 0 < unit) (ranged : Ranged q) where
     -- new, and put on the shelf
-    pub new_heeds : Related l.heard q New → (new : Slot) (c : Summary) (o : Outcome) → new ≡ turned_to Sound c begun → Taken begun.summary c q → PiecePut q piece piece' → cost unit (length q.body) ≤ free
-        → Completes (q ∷ l.heard) o → Open (q ∷ l.heard) c piece' → PacketEffect unit free l q (outcome_reply o) old begun new piece piece'
-    new_heeds is-new new c o is taken put fits done opened =
-        let e : row unit piece' ≡ cost unit (length q.body) + row unit piece = row_put unit piece piece' q.number q.body some ranged.limits.0 (unheard_bare l.heard begun.summary piece sound.1 q.number is-new.1) put.here put.there in
-        let w : weight unit (q ∷ l.heard) ≡ cost unit (length q.body) + weight unit l.heard = ap (λ (t : Bool). cond t 0 (cost unit (length q.body)) + weight unit l.heard) (not_numbered q.number l.heard is-new.1) in
+    pub new_heeds : Related l.heard q New → (t : SlotStay) (c : Summary) (o : Outcome) → t ≡ turned_to (Sound c) begun → PiecePut q piece piece' → cost unit (length q.body) ≤ free
+        → Completes (q ∷ l.heard) o → Open (q ∷ l.heard) c piece' → PacketEffect unit free l q (outcome_reply o) old begun (Some t) piece piece'
+    new_heeds is-new t c o is put fits done opened =
+        let e : row unit piece' ≡ cost unit (length q.body) + row unit piece = row_put unit piece piece' q.number q.body some ranged.limits.0 (unheard_bare l.heard was piece sound.1 q.number is-new.1) put.here put.there in
+        let w : weight unit (q ∷ l.heard) ≡ cost unit (length q.body) + weight unit l.heard = ap (λ (b : Bool). cond b 0 (cost unit (length q.body)) + weight unit l.heard) (not_numbered q.number l.heard is-new.1) in
         by_outcome o done (sound.0, opened, e ∙ ap (λ (n : ℕ). cost unit (length q.body) + n) sound.2 ∙ sym w)
       where
-        by_outcome : (o : Outcome) → Completes (q ∷ l.heard) o → Reflects Sound unit (more q l) c piece' → PacketEffect unit free l q (outcome_reply o) old begun new piece piece'
-        by_outcome outcome.Whole d m = turns completed new c is m (completes sound.0 d is-new.1 fits refl) refl
-        by_outcome outcome.Kept d m = turns kept new c is m (goes_on sound.0 opened.calm d is-new.1 fits refl) refl
+        by_outcome : (o : Outcome) → Completes (q ∷ l.heard) o → Reflects (Sound c) unit (more q l) piece' → PacketEffect unit free l q (outcome_reply o) old begun (Some t) piece piece'
+        by_outcome outcome.Whole d m = turns completed t (Sound c) is m (completes sound.0 d is-new.1 fits refl) refl
+        by_outcome outcome.Kept d m = turns kept t (Sound c) is m (goes_on sound.0 opened.calm d is-new.1 fits refl) refl
         by_outcome outcome.Repeated d m = absurd d
 
-    pub again_heeds : Related l.heard q Repeated → (new : Slot) (c : Summary) → new ≡ turned_to Sound c begun → Open (q ∷ l.heard) c piece' → ((n : ℕ) → piece' n ≡ piece n) → PacketEffect unit free l q repeated old begun new piece piece'
-    again_heeds rel new c is opened same =
-        let w : weight unit (q ∷ l.heard) ≡ 0 + weight unit l.heard = ap (λ (t : Bool). cond t 0 (cost unit (length q.body)) + weight unit l.heard) (in_numbered q.number l.heard rel.1) in
-        turns repeated new c is (sound.0, opened, omega (arith, row_same unit piece piece' same, sound.2, w)) (again sound.0 opened.calm rel.1 refl) refl
+    pub again_heeds : Related l.heard q Repeated → (t : SlotStay) (c : Summary) → t ≡ turned_to (Sound c) begun → Open (q ∷ l.heard) c piece' → ((n : ℕ) → piece' n ≡ piece n) → PacketEffect unit free l q repeated old begun (Some t) piece piece'
+    again_heeds rel t c is opened same =
+        let w : weight unit (q ∷ l.heard) ≡ 0 + weight unit l.heard = ap (λ (b : Bool). cond b 0 (cost unit (length q.body)) + weight unit l.heard) (in_numbered q.number l.heard rel.1) in
+        turns repeated t (Sound c) is (sound.0, opened, omega (arith, row_same unit piece piece' same, sound.2, w)) (again sound.0 opened.calm rel.1 refl) refl
 
-    pub clash_heeds : Related l.heard q Contradicts → (r : Reply) → r ≡ refused_by 23 → (new : Slot) (c : Summary) → new ≡ turned_to Spoiled c begun → Bare piece' → PacketEffect unit free l q r old begun new piece piece'
-    clash_heeds clash r e new c is none = record {
-      due = contradicts sound.0 sound.1.calm clash e;
-      unheard = λ f. absurd (true≢false (sym (ap audible e) ∙ f));
-      heard = λ _. (
-        ap (λ (x : Slot). x.id) is,
-        ap (λ (x : Slot). x.id_length) is,
-        ap used is,
-        ap (λ (x : Slot). x.age) is,
-        subst (λ (x : Slot). Mirrors unit (more q l) x piece') (sym is) (sound.0, (q, clash.0, inl refl, inr clash.1, clash.2), none),
-      );
-    }
+    pub clash_heeds : Related l.heard q Contradicts → (r : Reply) → r ≡ refused_by 23 → (t : SlotStay) → t ≡ turned_to Spoiled begun → Bare piece' → PacketEffect unit free l q r old begun (Some t) piece piece'
+    clash_heeds clash r e t is none = turns r t Spoiled is (sound.0, (q, clash.0, inl refl, inr clash.1, clash.2), none) (contradicts sound.0 sound.1.calm clash e) (ap audible e)
 
     pub full_heeds : Related l.heard q New → (r : Reply) → r ≡ refused_by 22 → free < cost unit (length q.body) → ((n : ℕ) → piece' n ≡ piece n) → PacketEffect unit free l q r old begun old piece piece'
     full_heeds rel r e tight same = record {
@@ -81,29 +72,9 @@ module _ (unit free : ℕ) (l : Stay) (q : FragmentValue) (old begun : Slot) (pi
       heard = λ t. absurd (false≢true (sym (ap audible e) ∙ t));
     }
 
-  -- a spoiled slot stays so, a fetched one too
-  pub spoiled_heeds : Reflects Spoiled unit l begun.summary piece → (r : Reply) → r ≡ refused_by 24 → (new : Slot) (c : Summary) → new ≡ turned_to Spoiled c begun → ((n : ℕ) → piece' n ≡ piece n) → PacketEffect unit free l q r old begun new piece piece'
-  spoiled_heeds m r e new c is same = record {
-    due = after_spoil m.0 m.1 e;
-    unheard = λ f. absurd (true≢false (sym (ap audible e) ∙ f));
-    heard = λ _. (
-      ap (λ (x : Slot). x.id) is,
-      ap (λ (x : Slot). x.id_length) is,
-      ap used is,
-      ap (λ (x : Slot). x.age) is,
-      subst (λ (x : Slot). Mirrors unit (more q l) x piece') (sym is) (m.0, (m.1.0, m.1.1, inr m.1.2, inr m.1.3, m.1.4), λ n. same n ∙ m.2 n),
-    );
-  }
+  -- a spoiled stay remains so, a fetched one too
+  pub spoiled_heeds : Reflects Spoiled unit l piece → (r : Reply) → r ≡ refused_by 24 → (t : SlotStay) → t ≡ turned_to Spoiled begun → ((n : ℕ) → piece' n ≡ piece n) → PacketEffect unit free l q r old begun (Some t) piece piece'
+  spoiled_heeds m r e t is same = turns r t Spoiled is (m.0, (m.1.0, m.1.1, inr m.1.2, inr m.1.3, m.1.4), λ n. same n ∙ m.2 n) (after_spoil m.0 m.1 e) (ap audible e)
 
-  pub fetched_heeds : Reflects Fetched unit l begun.summary piece → (r : Reply) → r ≡ refused_by 25 → (new : Slot) (c : Summary) → new ≡ turned_to Fetched c begun → ((n : ℕ) → piece' n ≡ piece n) → PacketEffect unit free l q r old begun new piece piece'
-  fetched_heeds m r e new c is same = record {
-    due = after_fetch m.0 e;
-    unheard = λ f. absurd (true≢false (sym (ap audible e) ∙ f));
-    heard = λ _. (
-      ap (λ (x : Slot). x.id) is,
-      ap (λ (x : Slot). x.id_length) is,
-      ap used is,
-      ap (λ (x : Slot). x.age) is,
-      subst (λ (x : Slot). Mirrors unit (more q l) x piece') (sym is) (m.0, λ n. same n ∙ m.1 n),
-    );
-  }
+  pub fetched_heeds : Reflects Fetched unit l piece → (r : Reply) → r ≡ refused_by 25 → (t : SlotStay) → t ≡ turned_to Fetched begun → ((n : ℕ) → piece' n ≡ piece n) → PacketEffect unit free l q r old begun (Some t) piece piece'
+  fetched_heeds m r e t is same = turns r t Fetched is (m.0, λ n. same n ∙ m.1 n) (after_fetch m.0 e) (ap audible e)

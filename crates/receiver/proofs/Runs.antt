@@ -2,7 +2,6 @@
 use Rattle.std.proofs.Common.{◌≡◌, ℕ, List, [], ◌∷◌, sym, ap, ◌∙◌, subst, inl, inr, arith}
 use Rattle.std.proofs.lemmas.Bool.{cases_lt, true≢false}
 use Rattle.wire.specs.Limits.{max_slots}
-use Rattle.collection.specs.declared.summary.Summary.{Summary}
 use Rattle.history.specs.Calls.{Call, Reply, History, fetches, asks, told, none_yet}
 use Rattle.history.specs.Stays.{Terms, Stay, Standing, outside, inside, Stands}
 use Rattle.history.specs.Answers.{AnswerDue, AllDue}
@@ -11,11 +10,12 @@ use Rattle.history.proofs.Answers.{one_answer}
 use Rattle.history.proofs.Fetches.{fetched_if_whole, fetched_once, same_state}
 use Rattle.history.proofs.Existence.{some_answer}
 use Rattle.history.proofs.Orders.{orders_agree}
-use Rattle.receiver.specs.declared.slot.Phase.{Phase}
-use Rattle.receiver.specs.declared.slot.Phase.TheVariants.{Free, Sound, Spoiled, Fetched}
-use Rattle.receiver.specs.Slots.{name_in, Bears, Reflects, at}
+use Rattle.receiver.specs.declared.stay.Phase.{Phase}
+use Rattle.receiver.specs.declared.stay.Phase.TheVariants.{Sound, Spoiled, Fetched}
+use Rattle.receiver.specs.Slots.{Slot, name_in, Bears, Reflects, Keeps, at}
 use Rattle.receiver.specs.Tables.{Seen, Explains, Step}
 use Rattle.receiver.specs.Laws.{Run, StayHeld, Shelved, Lawful}
+use Rattle.receiver.proofs.Slots.{kept_in}
 use Rattle.receiver.proofs.Hearings.{unheard_bare}
 use Rattle.receiver.proofs.Collections.{collect, stays_of}
 use Rattle.receiver.proofs.Ticks.{holder_of}
@@ -32,17 +32,19 @@ pub stands_of : (h : History) (s : Seen) → Explains h s → (id : List ℕ) �
 stands_of h s ex id = elim (holder_of h s ex id) [
   | inl x ↦ elim (ex.seats x.0 x.1) [
     | inl d ↦ absurd (true≢false (sym x.2.0 ∙ d.0))
-    | inr y ↦ (inside y.1, subst (λ (i : List ℕ). Stands s.terms.patience h i (inside y.1)) (sym y.2.2 ∙ x.2.2) y.3)
+    | inr y ↦ (inside y.1, subst (λ (i : List ℕ). Stands s.terms.patience h i (inside y.1)) (sym y.2.1 ∙ x.2.1) y.3)
   ]
   | inr none ↦ (outside, ex.absent id none)
 ]
 
 -- a slot's pieces are as its stay says
-pub lies_of : (f : Phase) (unit : ℕ) (l : Stay) (c : Summary) (piece : ℕ → List ℕ) → Reflects f unit l c piece → StayHeld l piece
-lies_of Free unit l c piece m = absurd m
-lies_of Sound unit l c piece m = inl (m.0, m.1.calm, record { each = m.1.kept; no_other = unheard_bare l.heard c piece m.1 })
-lies_of Spoiled unit l c piece m = inr (inr m.1, m.2)
-lies_of Fetched unit l c piece m = inr (inl m.0, m.1)
+phase_lies : (f : Phase) (unit : ℕ) (l : Stay) (piece : ℕ → List ℕ) → Reflects f unit l piece → StayHeld l piece
+phase_lies (Sound c) unit l piece m = inl (m.0, m.1.calm, record { each = m.1.kept; no_other = unheard_bare l.heard c piece m.1 })
+phase_lies Spoiled unit l piece m = inr (inr m.1, m.2)
+phase_lies Fetched unit l piece m = inr (inl m.0, m.1)
+
+lies_of : (unit p : ℕ) (l : Stay) (s : Slot) (piece : ℕ → List ℕ) → Keeps unit p l s piece → StayHeld l piece
+lies_of unit p l s piece m = let x = kept_in unit p l s piece m in phase_lies x.0.phase unit l piece x.2
 
 -- the shelf holds what was heard
 pub shelved : (h : History) (s : Seen) → Explains h s → Shelved s.terms h s.piece
@@ -54,15 +56,15 @@ shelved h s ex =
       listed = stays_of h s ex r.0 o;
       slot = λ z i. (o.from z i).0;
       within = λ z i. (o.from z i).1;
-      own = λ y z i j e. sym (o.from y i).2.2 ∙ ap (λ (k : ℕ). name_in (at s.slots k)) e ∙ (o.from z j).2.2;
+      own = λ y z i j e. sym (o.from y i).2.1 ∙ ap (λ (k : ℕ). name_in (at s.slots k)) e ∙ (o.from z j).2.1;
       holds = λ z i.
           let x = o.from z i in
           elim (ex.seats x.0 x.1) [
             | inl d ↦ absurd (true≢false (sym x.2.0 ∙ d.0))
             | inr y ↦
-                let st : Stands s.terms.patience h z.name (inside y.1) = subst (λ (n : List ℕ). Stands s.terms.patience h n (inside y.1)) (sym y.2.2 ∙ x.2.2) y.3 in
+                let st : Stands s.terms.patience h z.name (inside y.1) = subst (λ (n : List ℕ). Stands s.terms.patience h n (inside y.1)) (sym y.2.1 ∙ x.2.1) y.3 in
                 let e : y.1 ≡ z.stay = same_stay _ _ (stands_one s.terms.patience h z.name (inside y.1) (inside z.stay) st (o.each z i).0) in
-                subst (λ (l : Stay). StayHeld l (s.piece x.0)) e (lies_of _ _ _ _ _ y.4.0)
+                subst (λ (l : Stay). StayHeld l (s.piece x.0)) e (lies_of _ _ _ _ _ y.4)
           ];
       no_more = λ k none n. elim (cases_lt k max_slots) [
         | inr off ↦ ex.tidy.slots_fit k n off

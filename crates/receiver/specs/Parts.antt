@@ -1,5 +1,5 @@
 -- Parts: what the steps inside of a call do.
-use Rattle.std.specs.Prelude.{◌≡◌, ℕ, ◌+◌, ◌<◌, ◌≤◌, min, true, false, cond, ◌⊎◌, List, [], ◌∷◌, ◌++◌, length, drop, ◌≢◌}
+use Rattle.std.specs.Prelude.{◌≡◌, ℕ, ◌<◌, ◌≤◌, ◌+◌, ◌↔◌, IsTrue, min, Bool, true, false, cond, ◌⊎◌, List, [], ◌∷◌, ◌++◌, length, drop, slice_set, Some, ◌≢◌}
 use Rattle.wire.specs.Refusals.{fault_number}
 use Rattle.wire.specs.declared.refusal.Refusal.{Refusal}
 use Rattle.wire.specs.declared.refusal.Layer.TheVariants as layer
@@ -7,18 +7,17 @@ use Rattle.shelf.specs.Pieces.{Pieces}
 use Rattle.shelf.specs.Units.{free_units}
 use Rattle.shelf.specs.declared.Shelf.{Ghosts}
 use Rattle.collection.specs.Fragments.{FragmentValue, Whole}
-use Rattle.collection.specs.Kept.{Open, Related}
+use Rattle.collection.specs.Kept.{Open}
 use Rattle.collection.specs.declared.summary.Summary.{Summary}
-use Rattle.collection.specs.declared.summary.Relation.TheVariants.{New}
 use Rattle.history.specs.Calls.{Call, State, Reply, History, told, accepted, audible, most_refusals}
-use Rattle.history.specs.Stays.{Stay, Survives, Ends, more}
+use Rattle.history.specs.Stays.{Stay, Waits, Survives, Ends, later, more}
 use Rattle.history.specs.Answers.{PacketAnswer, StateDue, AnswerDue}
 use Rattle.receiver.specs.declared.answers.Outcome.{Outcome}
 use Rattle.receiver.specs.declared.answers.Outcome.TheVariants as outcome
-use Rattle.receiver.specs.declared.slot.Slot.{Slot}
-use Rattle.receiver.specs.declared.slot.Phase.{Phase}
-use Rattle.receiver.specs.declared.slot.Phase.TheVariants.{Sound}
-use Rattle.receiver.specs.Slots.{Bears, Bare, Reflects, Mirrors, Keeps, used, at}
+use Rattle.receiver.specs.declared.stay.Stay.{Stay as SlotStay}
+use Rattle.receiver.specs.declared.stay.Phase.{Phase}
+use Rattle.receiver.specs.declared.stay.Phase.TheVariants.{Sound}
+use Rattle.receiver.specs.Slots.{Slot, Bears, Bare, Mirrors, Keeps, used, id_bytes, name_in, at}
 use Rattle.receiver.specs.Tables.{Lent, Seen, Explains, KeepsSlots}
 
 -- the receiver refuses by this number; it points at no place
@@ -27,27 +26,43 @@ pub record ReceiverRefusal (n : ℕ) (e : Refusal) : Type 0 where
   pub place_is : e.place ≡ 0
   pub by_layer : e.layer ≡ layer.Receiver
 
+-- no slot is that of id
+abbrev pub Absent : List Slot → List ℕ → Type 0
+Absent slots id = (k : ℕ) → k < length slots → Bears (at slots k) id → ⊥
+
+-- the slot k is that of id
+abbrev pub OwnSlot : List Slot → List ℕ → ℕ → Type 0
+OwnSlot slots id k = (k < length slots) × Bears (at slots k) id
+
+-- the slot k is that of id, and has the stay s
+abbrev pub OwnStay : List Slot → List ℕ → ℕ → SlotStay → Type 0
+OwnStay slots id k s = OwnSlot slots id k × (at slots k ≡ Some s)
+
+-- no slot is free
+abbrev pub AllTaken : List Slot → Type 0
+AllTaken slots = (k : ℕ) → k < length slots → used (at slots k) ≡ true
+
+-- the slot k is free
+abbrev pub FreeSlot : List Slot → ℕ → Type 0
+FreeSlot slots k = (k < length slots) × (used (at slots k) ≡ false)
+
 -- the slot k is that for id: its own, or a free one and none is its own
-pub record Home (slots : List Slot) (id : List ℕ) (k : ℕ) : Type 0 where
-  pub within : k < length slots
-  pub mine : used (at slots k) ≡ true → Bears (at slots k) id
-  pub only : used (at slots k) ≡ false → (j : ℕ) → j < length slots → Bears (at slots j) id → ⊥
+abbrev pub Home : List Slot → List ℕ → ℕ → Type 0
+Home slots id k = (k < length slots) × (Bears (at slots k) id ⊎ ((used (at slots k) ≡ false) × Absent slots id))
 
 -- there is no slot for id
-pub record Crowded (slots : List Slot) (id : List ℕ) : Type 0 where
-  pub full : (k : ℕ) → k < length slots → used (at slots k) ≡ true
-  pub none : (k : ℕ) → k < length slots → Bears (at slots k) id → ⊥
+abbrev pub Crowded : List Slot → List ℕ → Type 0
+Crowded slots id = AllTaken slots × Absent slots id
 
--- the slot s as a packet of id finds it: a free one is made its own
-pub record Begun (s : Slot) (id : List ℕ) (r : Slot) : Type 0 where
-  pub named : used s ≡ false → Bears r id
-  pub phased : used s ≡ false → r.phase ≡ Sound
-  pub empty : used s ≡ false → (piece : ℕ → List ℕ) → Bare piece → Open [] r.summary piece
-  pub old : used s ≡ true → r ≡ s
+-- the stay in the slot s as a packet of id finds it: in a free slot one begins
+pub record Begun (s : Slot) (id : List ℕ) (r : SlotStay) : Type 0 where
+  pub named : used s ≡ false → id_bytes r.id ≡ id
+  pub empty : used s ≡ false → (c : Summary) × (r.phase ≡ Sound c) × ((piece : ℕ → List ℕ) → Bare piece → Open [] c piece)
+  pub old : used s ≡ true → s ≡ Some r
 
--- the slot in another phase, with another summary and age 0
-abbrev pub turned_to : Phase → Summary → Slot → Slot
-turned_to f c s = record { phase = f; id = s.id; id_length = s.id_length; age = 0; summary = c }
+-- the stay in another phase, at age 0
+abbrev pub turned_to : Phase → SlotStay → SlotStay
+turned_to f s = record { id = s.id; age = 0; phase = f }
 
 -- what is seen of a shelf
 pub record Held : Type 0 where
@@ -59,35 +74,27 @@ pub record Held : Type 0 where
 abbrev pub held : {X : Type 0} → Ghosts X → X → Held
 held g s = record { unit = g.unit; capacity = g.capacity s; piece = g.piece s; lent = record { loan = g.loan s; rest = g.rest s } }
 
--- of the shelf a, only the pieces of the slot k change
-pub record OnlyAt (k : ℕ) (a b : Held) : Type 0 where
-  pub same_unit : b.unit ≡ a.unit
-  pub same_capacity : b.capacity ≡ a.capacity
-  pub same_lent : b.lent ≡ a.lent
-  pub others : (t m : ℕ) → (t ≢ k) → b.piece t m ≡ a.piece t m
-
 -- the shelf b is a, but for its pieces
 pub record SameShelf (a b : Held) : Type 0 where
   pub same_capacity : b.capacity ≡ a.capacity
   pub same_lent : b.lent ≡ a.lent
 
--- the packet q in a slot with the stay l: `old` is the slot as it was, `begun` as the packet found it, `new` as it is then
-pub record PacketEffect (unit free : ℕ) (l : Stay) (q : FragmentValue) (r : Reply) (old begun new : Slot) (piece piece' : ℕ → List ℕ) : Type 0 where
+-- the packet q in a slot with the stay l: `old` is the slot as it was, `begun` its stay as the packet found it, `new` the slot as it is then
+pub record PacketEffect (unit free : ℕ) (l : Stay) (q : FragmentValue) (r : Reply) (old : Slot) (begun : SlotStay) (new : Slot) (piece piece' : ℕ → List ℕ) : Type 0 where
   pub due : PacketAnswer unit free q l r
   pub unheard : audible r ≡ false → (new ≡ old) × ((n : ℕ) → piece' n ≡ piece n)
-  pub heard : audible r ≡ true → (new.id ≡ begun.id) × (new.id_length ≡ begun.id_length) × (used new ≡ true) × (new.age ≡ 0) × Mirrors unit (more q l) new piece'
+  pub heard : audible r ≡ true → (s : SlotStay) × (new ≡ Some s) × (s.id ≡ begun.id) × (s.age ≡ 0) × Mirrors unit (more q l) s piece'
 
--- the packet q, which is new, in the slot k, which is sound
-pub record KeptNew (k : ℕ) (q : FragmentValue) (r : Reply) (old begun new : Slot) (a b : Held) : Type 0 where
-  pub only_here : OnlyAt k a b
-  pub heeds : (l : Stay) → 0 < a.unit → Reflects Sound a.unit l begun.summary (a.piece k) → Related l.heard q New
-      → PacketEffect a.unit (free_units a.unit a.capacity a.piece) l q r old begun new (a.piece k) (b.piece k)
-
--- any packet q in the slot k
-pub record TakenIn (k : ℕ) (q : FragmentValue) (r : Reply) (old begun new : Slot) (a b : Held) : Type 0 where
-  pub only_here : OnlyAt k a b
-  pub heeds : (l : Stay) → 0 < a.unit → Mirrors a.unit l begun (a.piece k)
-      → PacketEffect a.unit (free_units a.unit a.capacity a.piece) l q r old begun new (a.piece k) (b.piece k)
+-- any packet q in the slot k: of the table and of the shelf, only that slot and its pieces change
+pub record TakenIn (k : ℕ) (q : FragmentValue) (r : Reply) (begun : SlotStay) (s e : Seen) : Type 0 where
+  pub same_terms : e.terms ≡ s.terms
+  pub same_lent : e.lent ≡ s.lent
+  pub same_count : e.refused ≡ s.refused
+  pub others : (t m : ℕ) → (t ≢ k) → e.piece t m ≡ s.piece t m
+  pub new : Slot
+  pub slots : e.slots ≡ slice_set s.slots k new
+  pub heeds : (l : Stay) → 0 < s.terms.unit → Mirrors s.terms.unit l begun (s.piece k)
+      → PacketEffect s.terms.unit (free_units s.terms.unit s.terms.capacity s.piece) l q r (at s.slots k) begun new (s.piece k) (e.piece k)
 
 -- what a new packet comes to, with which these were heard
 abbrev pub Completes : List FragmentValue → Outcome → Type 0
@@ -99,12 +106,15 @@ Completes ps outcome.Repeated = ⊥
 abbrev pub Joins : List ℕ → List ℕ → List ℕ → Type 0
 Joins bytes was new = length bytes ≤ length was → new ≡ bytes ++ drop (length bytes) was
 
+-- b says whether the message of a stay is whole and not yet fetched
+abbrev pub TellsWaiting : Bool → SlotStay → Type 0
+TellsWaiting b s = (unit : ℕ) (l : Stay) (piece : ℕ → List ℕ) → Mirrors unit l s piece → IsTrue b ↔ Waits l
+
 -- a slot a tick later, with the patience p
 pub record Older (p : ℕ) (s r : Slot) : Type 0 where
   pub free : used s ≡ false → used r ≡ false
-  pub goes : (unit : ℕ) (l : Stay) (piece : ℕ → List ℕ) → Keeps unit p l s piece
-      → (Survives p l × (r.phase ≡ s.phase) × (r.age ≡ min p (l.since + 1))) ⊎ (Ends p l × (used r ≡ false))
-  pub named : (r.id ≡ s.id) × (r.id_length ≡ s.id_length) × (r.summary ≡ s.summary)
+  pub goes : (unit : ℕ) (l : Stay) (piece : ℕ → List ℕ) → Keeps unit p l s piece → (Survives p l × Keeps unit p (later l) r piece) ⊎ (Ends p l × (used r ≡ false))
+  pub named : used r ≡ true → name_in r ≡ name_in s
 
 -- a step that has yet to be counted
 pub record Uncounted (c : Call) (r : Reply) (s e : Seen) : Type 0 where

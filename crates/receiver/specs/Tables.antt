@@ -8,9 +8,8 @@ use Rattle.shelf.specs.declared.Shelf.{Ghosts}
 use Rattle.history.specs.Calls.{Call, Reply, History, refusals, most_refusals}
 use Rattle.history.specs.Stays.{Terms, Stands, outside}
 use Rattle.history.specs.Answers.{AnswerDue}
-use Rattle.receiver.specs.declared.slot.Slot.{Slot}
 use Rattle.receiver.specs.declared.receiver.Receiver.{Receiver}
-use Rattle.receiver.specs.Slots.{Bears, Seat, at}
+use Rattle.receiver.specs.Slots.{Slot, Bears, Seat, at}
 
 -- the patience where 0 is given
 abbrev pub default_patience : ℕ

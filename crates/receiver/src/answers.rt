@@ -1,7 +1,7 @@
 // What the receiver's calls answer.
 
 /// What became of an arrival that is not refused.
-#[derive(Clone, Copy)]
+#[derive(Clone, Copy, Debug, PartialEq, Eq)]
 pub enum Outcome {
     /// The packet is new, and its message is not whole yet.
     Kept,
@@ -12,7 +12,8 @@ pub enum Outcome {
 }
 
 /// The state of an id.
-#[derive(Clone, Copy)]
+// no `Option` of four states: the state question has these five answers, each by its name
+#[derive(Clone, Copy, Debug, PartialEq, Eq)]
 pub enum IdState {
     /// The id is in no stay.
     None,
@@ -32,7 +33,7 @@ pub enum IdState {
 }
 
 /// The answer to a state question.
-#[derive(Clone, Copy)]
+#[derive(Clone, Copy, Debug, PartialEq, Eq)]
 pub struct Status {
     pub state: IdState,
     /// How many arrivals were refused, for whatever id, up to 4,294,967,295.

@@ -4,5 +4,6 @@
 
 pub mod answers;
 pub mod receiver;
-mod slot;
+mod stay;
 mod steps;
+mod unique_id;

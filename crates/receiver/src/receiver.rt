@@ -1,16 +1,18 @@
 // The receiver's calls.
-ghost use Rattle.std.specs.Prelude.{◌≡◌, ℕ, length, if◌then◌else◌, nat_eq};
+ghost use Rattle.std.specs.Prelude.{◌≡◌, ℕ, ◌<◌, length, if◌then◌else◌, nat_eq, MatchOption};
+ghost use Rattle.wire.specs.Limits.{max_slots};
+ghost use Rattle.collection.specs.Kept.{shown};
 ghost use Rattle.history.specs.Calls.{History, arrives, fetches, ticks, asks, done};
 ghost use Rattle.receiver.specs.Tables.{Explains, Step, seen, default_patience};
 ghost use Rattle.receiver.specs.Replies.{arrival_reply, fetch_reply, status_reply, state_of, Handed};
-ghost use Rattle.receiver.specs.Parts.{Uncounted, StateKnown, held, SameShelf};
+ghost use Rattle.receiver.specs.Parts.{Uncounted, StateKnown, TakenIn, Absent, OwnStay, held, SameShelf};
 ghost use Rattle.receiver.specs.Laws.{Lawful};
 
 use crate::answers::{IdState, Outcome, Status};
-use crate::slot::{Phase, Slot};
-use crate::steps::{
-    begun, counted, fragment_of, free_slot, freed, join, older, place, refusal, take_in, turned,
-};
+use crate::stay::{Phase, Stay};
+use crate::steps::{begun, completion, fragment_of, join, own_slot, place, refusal};
+use collection::fragment::Fragment;
+use collection::summary::Relation;
 use packet::Packet;
 use shelf::Shelf;
 use wire::limits::MAX_SLOTS;
@@ -23,7 +25,8 @@ pub const DEFAULT_PATIENCE: u16 = 50;
 #[derive(Drop)]
 pub struct Receiver<S> {
     shelf: S,
-    slots: [Slot; MAX_SLOTS],
+    // the stays, each in a slot of its own
+    slots: [Option<Stay>; MAX_SLOTS],
     // after how many ticks a stay ends that is not whole and in which nothing was heard or fetched meanwhile
     patience: u16,
     // how many arrivals were refused
@@ -51,7 +54,7 @@ impl<S: Shelf> Receiver<S> {
         };
         Receiver {
             shelf,
-            slots: [free_slot(); MAX_SLOTS],
+            slots: [None; MAX_SLOTS],
             patience,
             refused: 0,
         }
@@ -62,7 +65,9 @@ impl<S: Shelf> Receiver<S> {
         ensures { Step (arrives datagram.now) (arrival_reply result) (seen S.Shelf self.old) (seen S.Shelf self.new) }
     {
         let answer = self.hear(datagram);
-        self.refused = counted(self.refused, answer);
+        if answer.is_err() {
+            self.refused = self.refused.saturating_add(1);
+        }
         answer
     }
 
@@ -74,12 +79,46 @@ impl<S: Shelf> Receiver<S> {
         let Some(k) = place(&self.slots, packet.id) else {
             return Err(refusal(Fault::SlotsTaken));
         };
-        let old = self.slots[k];
-        let begun = begun(old, packet.id);
-        let (answer, new) = take_in(&mut self.shelf, k, old, begun, fragment_of(packet));
-        self.slots[k] = new;
+        let stay = begun(self.slots[k], packet.id);
+        let answer = self.take_in(k, stay, fragment_of(packet));
         self.shelf.tidy();
         answer
+    }
+
+    // Takes a packet into the slot `at`, whose stay is this as the packet finds it.
+    fn take_in(&mut self, at: usize, stay: Stay, fragment: Fragment) -> Result<Outcome, Refusal>
+        requires { at < max_slots }
+        ensures { TakenIn at (shown fragment.entry) (arrival_reply result) stay (seen S.Shelf self.old) (seen S.Shelf self.new) }
+    {
+        match stay.phase {
+            Phase::Fetched => {
+                self.slots[at] = Some(stay.turned(Phase::Fetched));
+                Err(refusal(Fault::Fetched))
+            }
+            Phase::Spoiled => {
+                self.slots[at] = Some(stay.turned(Phase::Spoiled));
+                Err(refusal(Fault::Spoiled))
+            }
+            Phase::Sound(summary) => match summary.relate(&self.shelf, at, fragment) {
+                Relation::Contradicts => {
+                    self.shelf.clear(at);
+                    self.slots[at] = Some(stay.turned(Phase::Spoiled));
+                    Err(refusal(Fault::Contradiction))
+                }
+                Relation::Repeated => {
+                    self.slots[at] = Some(stay.turned(Phase::Sound(summary.with(fragment))));
+                    Ok(Outcome::Repeated)
+                }
+                Relation::New => {
+                    if !self.shelf.put(at, fragment.number as usize, fragment.body) {
+                        return Err(refusal(Fault::ShelfFull));
+                    }
+                    let summary = summary.with(fragment);
+                    self.slots[at] = Some(stay.turned(Phase::Sound(summary)));
+                    Ok(completion(summary))
+                }
+            },
+        }
     }
 
     /// Writes the message of an id at the start of the buffer, and answers its length.
@@ -87,16 +126,14 @@ impl<S: Shelf> Receiver<S> {
         ensures step { Step (fetches id.now (length buffer.old)) (fetch_reply result buffer.new) (seen S.Shelf self.old) (seen S.Shelf self.new) }
         ensures buffer { (h : History) → Explains h (seen S.Shelf self.old) → Handed result buffer.old buffer.new }
     {
-        let Some(k) = place(&self.slots, id) else {
+        let Some((k, stay)) = self.stay_of(id) else {
             return Err(refusal(Fault::NoSlot));
         };
-        let slot = self.slots[k];
-        match slot.phase {
-            Phase::Free => Err(refusal(Fault::NoSlot)),
+        match stay.phase {
             Phase::Spoiled => Err(refusal(Fault::Spoiled)),
             Phase::Fetched => Err(refusal(Fault::Fetched)),
-            Phase::Sound => {
-                let Some(extent) = slot.summary.whole() else {
+            Phase::Sound(summary) => {
+                let Some(extent) = summary.whole() else {
                     return Err(refusal(Fault::Gathering));
                 };
                 if extent.length > buffer.len() {
@@ -104,24 +141,35 @@ impl<S: Shelf> Receiver<S> {
                 }
                 join(&self.shelf, k, extent.pieces as usize, buffer);
                 self.shelf.clear(k);
-                self.slots[k] = turned(slot, Phase::Fetched, slot.summary);
+                self.slots[k] = Some(stay.turned(Phase::Fetched));
                 self.shelf.tidy();
                 Ok(extent.length)
             }
         }
     }
 
+    // The stay that an id is in, after its slot.
+    fn stay_of(&self, id: &[u8]) -> Option<(usize, Stay)>
+        ensures { MatchOption result (Absent self.now.slots id.now) (λ x. OwnStay self.now.slots id.now x.0 x.1) }
+    {
+        let k = own_slot(&self.slots, id)?;
+        let stay = self.slots[k]?;
+        Some((k, stay))
+    }
+
     /// Lets a tick pass. A stay ends that is not whole, and in which nothing was heard or fetched for as many ticks as the patience.
     pub fn tick(&mut self)
         ensures { Step ticks done (seen S.Shelf self.old) (seen S.Shelf self.new) }
     {
+        // by index: after `iter_mut` a proof does not know the elements
         for i in 0..MAX_SLOTS {
-            let before = self.slots[i];
-            let after = older(before, self.patience);
-            if freed(before, after) {
-                self.shelf.clear(i);
+            if let Some(stay) = self.slots[i] {
+                let after = stay.older(self.patience);
+                if after.is_none() {
+                    self.shelf.clear(i);
+                }
+                self.slots[i] = after;
             }
-            self.slots[i] = after;
         }
         self.shelf.tidy();
     }
@@ -139,16 +187,13 @@ impl<S: Shelf> Receiver<S> {
     fn id_state(&self, id: &[u8]) -> IdState
         ensures { StateKnown id.now (state_of result) (seen S.Shelf self.now) }
     {
-        let Some(k) = place(&self.slots, id) else {
+        let Some((_, stay)) = self.stay_of(id) else {
             return IdState::None;
         };
-        let slot = self.slots[k];
-        let summary = slot.summary;
-        match slot.phase {
-            Phase::Free => IdState::None,
+        match stay.phase {
             Phase::Spoiled => IdState::Spoiled,
             Phase::Fetched => IdState::Fetched,
-            Phase::Sound => match summary.whole() {
+            Phase::Sound(summary) => match summary.whole() {
                 Some(extent) => IdState::Whole {
                     length: extent.length,
                 },

@@ -1,22 +1,20 @@
-// The steps of the receiver's calls, on slots by value.
-ghost use Rattle.std.specs.Prelude.{◌≡◌, ℕ, ◌+◌, ◌<◌, ◌≤◌, min, true, false, not, ◌&&◌, List, ◌++◌, length, if◌then◌else◌, Decides, MatchOption};
-ghost use Rattle.wire.specs.Limits.{max_slots};
+// The steps of the receiver's calls that change nothing of it.
+ghost use Rattle.std.specs.Prelude.{◌≡◌, ℕ, ◌≤◌, ◌↔◌, IsTrue, List, ◌++◌, length, MatchOption};
 ghost use Rattle.wire.specs.Refusals.{fault_number};
 ghost use Rattle.packet.specs.Limits.{max_id};
 ghost use Rattle.packet.specs.Packets.{InRange, shown as packet-shown};
 ghost use Rattle.collection.specs.Fragments.{FragmentValue, joined};
 ghost use Rattle.collection.specs.Kept.{Open, shown};
-ghost use Rattle.history.specs.Calls.{accepted, most_refusals};
-ghost use Rattle.history.specs.Stays.{Stay, Waits, fragment_of};
-ghost use Rattle.receiver.specs.Slots.{Bears, Mirrors, used};
-ghost use Rattle.receiver.specs.Replies.{arrival_reply};
-ghost use Rattle.receiver.specs.Parts.{ReceiverRefusal, Home, Crowded, Begun, KeptNew, TakenIn, Older, Completes, Joins, turned_to, held};
+ghost use Rattle.history.specs.Stays.{fragment_of};
+ghost use Rattle.receiver.specs.Slots.{Bears};
+ghost use Rattle.receiver.specs.Parts.{ReceiverRefusal, Absent, OwnSlot, AllTaken, FreeSlot, Home, Crowded, Begun, Completes, Joins};
 
 use crate::answers::Outcome;
-use crate::slot::{Phase, Slot};
+use crate::stay::{Phase, Stay};
+use crate::unique_id::UniqueId;
 use collection::fragment::Fragment;
-use collection::summary::{Relation, Summary};
-use packet::{MAX_ID, Packet};
+use collection::summary::Summary;
+use packet::Packet;
 use shelf::Shelf;
 use wire::refusal::{Fault, Layer, Refusal};
 
@@ -30,127 +28,47 @@ pub(crate) fn refusal(fault: Fault) -> Refusal
     }
 }
 
-pub(crate) fn free_slot() -> Slot
-    ensures { used result ≡ false }
+// Whether the slot holds a stay of the id.
+fn bears(slot: &Option<Stay>, id: &[u8]) -> bool
+    ensures { IsTrue result ↔ Bears slot.now id.now }
 {
-    Slot {
-        phase: Phase::Free,
-        id: [0; MAX_ID],
-        id_length: 0,
-        age: 0,
-        summary: Summary::empty(),
+    match slot {
+        Some(stay) => stay.id.as_slice() == id,
+        None => false,
     }
 }
 
-pub(crate) fn in_use(slot: Slot) -> bool
-    ensures { result ≡ used slot }
+/// The slot that has a stay of the id.
+pub(crate) fn own_slot(slots: &[Option<Stay>], id: &[u8]) -> Option<usize>
+    ensures { MatchOption result (Absent slots.now id.now) (λ k. OwnSlot slots.now id.now k) }
 {
-    match slot.phase {
-        Phase::Free => false,
-        Phase::Sound | Phase::Spoiled | Phase::Fetched => true,
-    }
+    slots.iter().position(|slot| bears(slot, id))
 }
 
-pub(crate) fn bears(slot: Slot, id: &[u8]) -> bool
-    ensures { Decides result (Bears slot id.now) }
+// A slot without a stay.
+fn free_slot(slots: &[Option<Stay>]) -> Option<usize>
+    ensures { MatchOption result (AllTaken slots.now) (λ k. FreeSlot slots.now k) }
 {
-    if !in_use(slot) {
-        return false;
-    }
-    if slot.id_length > MAX_ID {
-        return false;
-    }
-    &slot.id[0..slot.id_length] == id
+    slots.iter().position(|slot| slot.is_none())
 }
 
 /// The slot for an id: its own, else a free one.
-pub(crate) fn place(slots: &[Slot], id: &[u8]) -> Option<usize>
+pub(crate) fn place(slots: &[Option<Stay>], id: &[u8]) -> Option<usize>
     ensures { MatchOption result (Crowded slots.now id.now) (λ k. Home slots.now id.now k) }
 {
-    for i in 0..slots.len() {
-        if bears(slots[i], id) {
-            return Some(i);
-        }
-    }
-    for j in 0..slots.len() {
-        if !in_use(slots[j]) {
-            return Some(j);
-        }
-    }
-    None
+    own_slot(slots, id).or_else(|| free_slot(slots))
 }
 
-/// The slot as a packet of the id finds it: a free one begins its stay.
-pub(crate) fn begun(slot: Slot, id: &[u8]) -> Slot
+/// The stay as a packet of the id finds it: in a free slot it begins.
+pub(crate) fn begun(slot: Option<Stay>, id: &[u8]) -> Stay
     requires { length id.now ≤ max_id }
     ensures { Begun slot id.now result }
 {
-    if in_use(slot) {
-        return slot;
-    }
-    let mut bytes = [0; MAX_ID];
-    bytes[0..id.len()].copy_from_slice(id);
-    Slot {
-        phase: Phase::Sound,
-        id: bytes,
-        id_length: id.len(),
+    slot.unwrap_or_else(|| Stay {
+        id: UniqueId::new(id),
         age: 0,
-        summary: Summary::empty(),
-    }
-}
-
-/// The slot in another phase, with another summary and age 0.
-pub(crate) fn turned(slot: Slot, phase: Phase, summary: Summary) -> Slot
-    ensures { result ≡ turned_to phase summary slot }
-{
-    let mut turned = slot;
-    turned.phase = phase;
-    turned.summary = summary;
-    turned.age = 0;
-    turned
-}
-
-/// Whether the message is whole and not yet fetched.
-fn waits(slot: Slot) -> bool
-    ensures { (unit : ℕ) (l : Stay) (piece : ℕ → List ℕ) → Mirrors unit l slot piece → Decides result (Waits l) }
-{
-    match slot.phase {
-        Phase::Sound => slot.summary.whole().is_some(),
-        Phase::Free | Phase::Spoiled | Phase::Fetched => false,
-    }
-}
-
-/// The slot a tick later.
-pub(crate) fn older(slot: Slot, patience: u16) -> Slot
-    ensures { Older patience slot result }
-{
-    let mut older = slot;
-    older.age = if slot.age < patience {
-        slot.age + 1
-    } else {
-        patience
-    };
-    if older.age == patience && !waits(slot) {
-        older.phase = Phase::Free;
-    }
-    older
-}
-
-/// Whether the slot is in use before, and free after.
-pub(crate) fn freed(before: Slot, after: Slot) -> bool
-    ensures { result ≡ (used before && not (used after)) }
-{
-    in_use(before) & !in_use(after)
-}
-
-/// One more refused arrival, where the answer refuses.
-pub(crate) fn counted(refused: u32, answer: Result<Outcome, Refusal>) -> u32
-    ensures { result ≡ min (refused + (if accepted (arrival_reply answer) then 0 else 1)) most_refusals }
-{
-    match answer {
-        Ok(_) => refused,
-        Err(_) => refused.saturating_add(1),
-    }
+        phase: Phase::Sound(Summary::empty()),
+    })
 }
 
 /// What a packet in range says beside its id.
@@ -167,65 +85,13 @@ pub(crate) fn fragment_of<'a>(packet: Packet<'a>) -> Fragment<'a>
 }
 
 /// What a new packet comes to, with which the summary is this.
-fn completion(summary: Summary) -> Outcome
+pub(crate) fn completion(summary: Summary) -> Outcome
     ensures { (ps : List FragmentValue) (piece : ℕ → List ℕ) → Open ps summary piece → Completes ps result }
 {
-    match summary.whole() {
-        Some(_) => Outcome::Whole,
-        None => Outcome::Kept,
-    }
-}
-
-/// Puts the body of a new packet on the shelf, if there is room.
-fn keep<S: Shelf>(
-    shelf: &mut S,
-    k: usize,
-    old: Slot,
-    begun: Slot,
-    fragment: Fragment,
-) -> (Result<Outcome, Refusal>, Slot)
-    requires { k < max_slots }
-    ensures { KeptNew k (shown fragment.entry) (arrival_reply result.0) old begun result.1 (held S.Shelf shelf.old) (held S.Shelf shelf.new) }
-{
-    if !shelf.put(k, fragment.number as usize, fragment.body) {
-        return (Err(refusal(Fault::ShelfFull)), old);
-    }
-    let summary = begun.summary.with(fragment);
-    let outcome = completion(summary);
-    (Ok(outcome), turned(begun, Phase::Sound, summary))
-}
-
-/// Takes a packet into the slot `k`, which was `old` and is `begun` as the packet finds it.
-pub(crate) fn take_in<S: Shelf>(
-    shelf: &mut S,
-    k: usize,
-    old: Slot,
-    begun: Slot,
-    fragment: Fragment,
-) -> (Result<Outcome, Refusal>, Slot)
-    requires { k < max_slots }
-    ensures { TakenIn k (shown fragment.entry) (arrival_reply result.0) old begun result.1 (held S.Shelf shelf.old) (held S.Shelf shelf.new) }
-{
-    let summary = begun.summary;
-    match (begun.phase, summary.relate(shelf, k, fragment)) {
-        (Phase::Fetched, _) => (
-            Err(refusal(Fault::Fetched)),
-            turned(begun, Phase::Fetched, summary),
-        ),
-        (Phase::Spoiled, _) => (
-            Err(refusal(Fault::Spoiled)),
-            turned(begun, Phase::Spoiled, summary),
-        ),
-        (_, Relation::Contradicts) => {
-            shelf.clear(k);
-            let spoiled = turned(begun, Phase::Spoiled, summary);
-            (Err(refusal(Fault::Contradiction)), spoiled)
-        }
-        (_, Relation::Repeated) => (
-            Ok(Outcome::Repeated),
-            turned(begun, Phase::Sound, summary.with(fragment)),
-        ),
-        (_, Relation::New) => keep(shelf, k, old, begun, fragment),
+    if summary.whole().is_some() {
+        Outcome::Whole
+    } else {
+        Outcome::Kept
     }
 }
 

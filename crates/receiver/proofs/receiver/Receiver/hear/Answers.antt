@@ -1,14 +1,17 @@
-use Rattle.std.proofs.Common.{ℕ, Err, sym, refl, ap, ◌∙◌, subst}
+use Rattle.std.proofs.Common.{List, None, Err, sym, refl, ap, ◌∙◌, subst}
+use Rattle.std.proofs.lemmas.List.{get_or_default}
 use Rattle.std.proofs.lemmas.Result.{err_from_is_err_and}
 use Rattle.shelf.specs.Units.{Tidy}
 use Rattle.packet.specs.Packets.{shown}
 use Rattle.collection.specs.Fragments.{FragmentValue}
 use Rattle.collection.specs.Kept.{shown as fragment-shown}
-use Rattle.history.specs.Stays.{Carries, fragment_of}
+use Rattle.history.specs.Stays.{Terms, Carries, fragment_of}
+use Rattle.receiver.specs.Slots.{Slot, at}
+use Rattle.receiver.specs.Parts.{Begun}
 use Rattle.receiver.specs.Replies.{arrival_reply}
-use Rattle.receiver.specs.Tables.{Seen, seen}
+use Rattle.receiver.specs.Tables.{Seen, KeepsSlots, seen}
 use Rattle.receiver.proofs.Hearings.{refused_so}
-use Rattle.receiver.proofs.Changes.{explains_as, terms_as, quiet_keeps}
+use Rattle.receiver.proofs.Changes.{explains_as, quiet_keeps}
 use Rattle.receiver.proofs.Arrivals.{arrival_due, arrive_step, arrive_keeps, crowd_due, crowd_step, unread_due, unread_step}
 use Rattle.receiver.proofs.receiver.Receiver.hear.Goals as goal
 
@@ -47,24 +50,24 @@ returns-in_default g c =
 pub returns : goal.returns
 returns g c =
     let S = g.S.Shelf in
-    let me = c.args.self.now in
-    let s : Seen = seen S me in
+    let s : Seen = seen S c.args.self.now in
+    let e : Seen = seen S c.take_in-answer.new.self in
     let p = c.in_ok-packet.packet in
     let xs = c.args.datagram.now in
+    let id = p.id.now in
     let k = c.in-Some.k in
+    let home = c.in-Some.ensures in
     let q : FragmentValue = fragment-shown c.fragment_of.result in
-    let carries : Carries xs p.id.now q = record { value = shown p; encodes = c.in_ok-packet.ensures.answer; id_is = refl; says = sym c.fragment_of.ensures } in
+    let carries : Carries xs id q = record { value = shown p; encodes = c.in_ok-packet.ensures.answer; id_is = refl; says = sym c.fragment_of.ensures } in
     let t = c.take_in-answer.ensures in
-    let P = S.piece c.take_in-answer.new.shelf in
-    let r = arrival_reply c.take_in-answer.result.0 in
-    let tidy : Tidy S.unit (S.capacity me.shelf) P = subst (λ (n : ℕ). Tidy S.unit n P) t.only_here.same_capacity c.tidy.ensures in
-    let terms = terms_as me.patience S.unit (S.capacity me.shelf) (S.capacity c.take_in-answer.new.shelf) t.only_here.same_capacity in
+    let r = arrival_reply c.take_in-answer.result in
+    let begun : Begun (at s.slots k) id c.begun-stay.result = subst (λ (x : Slot). Begun x id c.begun-stay.result) (get_or_default s.slots k _ None home.0) c.begun-stay.ensures in
+    let tidy : Tidy s.terms.unit s.terms.capacity e.piece = subst (λ (x : Terms). Tidy x.unit x.capacity e.piece) t.same_terms c.tidy.ensures in
     record {
-      same_terms = terms;
-      same_lent = t.only_here.same_lent;
-      same_count = refl;
-      keeps_slots = λ h ex. arrive_keeps h s ex xs p.id.now q carries k c.in-Some.ensures r c.begun-begun.result c.take_in-answer.result.1 P c.begun-begun.ensures t.heeds t.only_here.others tidy;
-      due = λ h ex. arrival_due h s ex xs p.id.now q carries k c.in-Some.ensures r c.begun-begun.result c.take_in-answer.result.1 P c.begun-begun.ensures t.heeds t.only_here.others tidy;
-      explained = λ h ex n e. explains_as _ _ _ terms refl refl refl
-          (arrive_step h s ex xs p.id.now q carries k c.in-Some.ensures r c.begun-begun.result c.take_in-answer.result.1 P c.begun-begun.ensures t.heeds t.only_here.others tidy n e s.lent);
+      same_terms = t.same_terms;
+      same_lent = t.same_lent;
+      same_count = t.same_count;
+      keeps_slots = λ h ex. subst (λ (x : List Slot). KeepsSlots s.slots x) (sym t.slots) (arrive_keeps h s ex xs id q carries k home r c.begun-stay.result t.new e.piece begun t.heeds t.others tidy);
+      due = λ h ex. arrival_due h s ex xs id q carries k home r c.begun-stay.result t.new e.piece begun t.heeds t.others tidy;
+      explained = λ h ex n is. explains_as _ _ _ t.same_terms t.slots refl refl (arrive_step h s ex xs id q carries k home r c.begun-stay.result t.new e.piece begun t.heeds t.others tidy n is s.lent);
     }

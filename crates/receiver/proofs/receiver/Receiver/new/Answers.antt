@@ -1,7 +1,7 @@
-use Rattle.std.proofs.Common.{◌≡◌, ℕ, ◌<◌, false, replicate, refl, ap, ◌∙◌, arith, rules, below_more}
+use Rattle.std.proofs.Common.{◌≡◌, ℕ, ◌<◌, false, replicate, None, refl, ap, ◌∙◌, arith, rules, below_more}
 use lib.ListN.{get_or-replicate}
 use Rattle.wire.specs.Limits.{max_slots}
-use Rattle.receiver.specs.Slots.{Bare, used, at, no_slot}
+use Rattle.receiver.specs.Slots.{Bare, used, at}
 use Rattle.receiver.proofs.Slots.{cleared, cleared_not}
 use Rattle.receiver.proofs.Changes.{lent_as}
 use Rattle.receiver.proofs.Makings.{nothing_yet}
@@ -23,7 +23,7 @@ loop-slot-preserved g c =
 
 pub returns : goal.returns
 returns g c =
-    let free : (k : ℕ) → k < max_slots → used (at (replicate 8 c.free_slot.result) k) ≡ false = λ k lt. ap used (get_or-replicate 8 k c.free_slot.result no_slot lt) ∙ c.free_slot.ensures in
+    let free : (k : ℕ) → k < max_slots → used (at (replicate 8 None) k) ≡ false = λ k lt. ap used (get_or-replicate 8 k None None lt) in
     record {
       law = lawful _ (nothing_yet _ (search rules) c.tidy.ensures refl free (λ k lt. c.loop-slot.invariant.0 k (omega arith)) refl);
       patience = search rules;
