@@ -1,7 +1,9 @@
 -- A packet in a slot.
 use Rattle.std.proofs.Common.{◌≡◌, ℕ, ◌+◌, ◌<◌, ◌≤◌, Bool, true, false, cond, List, [], ◌∷◌, length, Some, sym, refl, ap, ◌∙◌, subst, inl, inr, arith}
 use Rattle.std.proofs.lemmas.Bool.{cases_Bool, true≢false, false≢true}
+use Rattle.wire.specs.Refusals.{RefusedBy}
 use Rattle.wire.specs.declared.refusal.Refusal.{Refusal}
+use Rattle.wire.specs.declared.refusal.Layer.TheVariants.{Receiver}
 use Rattle.shelf.specs.Units.{cost}
 use Rattle.numbers.proofs.Digits.{has_not}
 use Rattle.collection.specs.Fragments.{FragmentValue, Ranged, Heard}
@@ -20,11 +22,11 @@ use Rattle.receiver.specs.declared.answers.Outcome.{Outcome}
 use Rattle.receiver.specs.declared.answers.Outcome.TheVariants as outcome
 use Rattle.receiver.specs.Slots.{Slot, Reflects, Mirrors, Bare, row}
 use Rattle.receiver.specs.Replies.{outcome_reply, refusal_reply}
-use Rattle.receiver.specs.Parts.{ReceiverRefusal, PacketEffect, Completes, turned_to}
+use Rattle.receiver.specs.Parts.{PacketEffect, Completes, turned_to}
 use Rattle.receiver.proofs.Rows.{row_put, row_same}
 
 -- what the receiver's refusal is as a reply
-pub refused_so : (n : ℕ) (e : Refusal) → ReceiverRefusal n e → refusal_reply e ≡ refused_by n
+pub refused_so : (n : ℕ) (e : Refusal) → RefusedBy Receiver n 0 e → refusal_reply e ≡ refused_by n
 refused_so n e r = let a = r.number_is in let b = r.place_is in let c = r.by_layer in cc
 
 -- a number that was not heard has no piece

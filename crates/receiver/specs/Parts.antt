@@ -1,8 +1,5 @@
 -- Parts: what the steps inside of a call do.
 use Rattle.std.specs.Prelude.{◌≡◌, ℕ, ◌<◌, ◌≤◌, ◌+◌, ◌↔◌, IsTrue, min, Bool, true, false, cond, ◌⊎◌, List, [], ◌∷◌, ◌++◌, length, drop, slice_set, Some, ◌≢◌}
-use Rattle.wire.specs.Refusals.{fault_number}
-use Rattle.wire.specs.declared.refusal.Refusal.{Refusal}
-use Rattle.wire.specs.declared.refusal.Layer.TheVariants as layer
 use Rattle.shelf.specs.Pieces.{Pieces}
 use Rattle.shelf.specs.Units.{free_units}
 use Rattle.shelf.specs.declared.Shelf.{Ghosts}
@@ -19,12 +16,6 @@ use Rattle.receiver.specs.declared.stay.Phase.{Phase}
 use Rattle.receiver.specs.declared.stay.Phase.TheVariants.{Sound}
 use Rattle.receiver.specs.Slots.{Slot, Bears, Bare, Mirrors, Keeps, used, id_bytes, name_in, at}
 use Rattle.receiver.specs.Tables.{Lent, Seen, Explains, KeepsSlots}
-
--- the receiver refuses by this number; it points at no place
-pub record ReceiverRefusal (n : ℕ) (e : Refusal) : Type 0 where
-  pub number_is : fault_number e.fault ≡ n
-  pub place_is : e.place ≡ 0
-  pub by_layer : e.layer ≡ layer.Receiver
 
 -- no slot is that of id
 abbrev pub Absent : List Slot → List ℕ → Type 0

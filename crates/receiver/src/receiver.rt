@@ -10,13 +10,13 @@ ghost use Rattle.receiver.specs.Laws.{Lawful};
 
 use crate::answers::{IdState, Outcome, Status};
 use crate::stay::{Phase, Stay};
-use crate::steps::{begun, completion, fragment_of, join, own_slot, place, refusal};
+use crate::steps::{begun, completion, fragment_of, join, own_slot, place};
 use collection::fragment::Fragment;
 use collection::summary::Relation;
 use packet::Packet;
 use shelf::Shelf;
 use wire::limits::MAX_SLOTS;
-use wire::refusal::{Fault, Refusal};
+use wire::refusal::{Fault, Layer, Refusal};
 
 /// The patience, in ticks, of a receiver that is made with patience 0.
 pub const DEFAULT_PATIENCE: u16 = 50;
@@ -77,7 +77,7 @@ impl<S: Shelf> Receiver<S> {
     {
         let packet = Packet::read(datagram)?;
         let Some(k) = place(&self.slots, packet.id) else {
-            return Err(refusal(Fault::SlotsTaken));
+            return Err(Layer::Receiver.refusal(Fault::SlotsTaken, 0));
         };
         let stay = begun(self.slots[k], packet.id);
         let answer = self.take_in(k, stay, fragment_of(packet));
@@ -93,17 +93,17 @@ impl<S: Shelf> Receiver<S> {
         match stay.phase {
             Phase::Fetched => {
                 self.slots[at] = Some(stay.turned(Phase::Fetched));
-                Err(refusal(Fault::Fetched))
+                Err(Layer::Receiver.refusal(Fault::Fetched, 0))
             }
             Phase::Spoiled => {
                 self.slots[at] = Some(stay.turned(Phase::Spoiled));
-                Err(refusal(Fault::Spoiled))
+                Err(Layer::Receiver.refusal(Fault::Spoiled, 0))
             }
             Phase::Sound(summary) => match summary.relate(&self.shelf, at, fragment) {
                 Relation::Contradicts => {
                     self.shelf.clear(at);
                     self.slots[at] = Some(stay.turned(Phase::Spoiled));
-                    Err(refusal(Fault::Contradiction))
+                    Err(Layer::Receiver.refusal(Fault::Contradiction, 0))
                 }
                 Relation::Repeated => {
                     self.slots[at] = Some(stay.turned(Phase::Sound(summary.with(fragment))));
@@ -111,7 +111,7 @@ impl<S: Shelf> Receiver<S> {
                 }
                 Relation::New => {
                     if !self.shelf.put(at, fragment.number as usize, fragment.body) {
-                        return Err(refusal(Fault::ShelfFull));
+                        return Err(Layer::Receiver.refusal(Fault::ShelfFull, 0));
                     }
                     let summary = summary.with(fragment);
                     self.slots[at] = Some(stay.turned(Phase::Sound(summary)));
@@ -127,17 +127,17 @@ impl<S: Shelf> Receiver<S> {
         ensures buffer { (h : History) → Explains h (seen S.Shelf self.old) → Handed result buffer.old buffer.new }
     {
         let Some((k, stay)) = self.stay_of(id) else {
-            return Err(refusal(Fault::NoSlot));
+            return Err(Layer::Receiver.refusal(Fault::NoSlot, 0));
         };
         match stay.phase {
-            Phase::Spoiled => Err(refusal(Fault::Spoiled)),
-            Phase::Fetched => Err(refusal(Fault::Fetched)),
+            Phase::Spoiled => Err(Layer::Receiver.refusal(Fault::Spoiled, 0)),
+            Phase::Fetched => Err(Layer::Receiver.refusal(Fault::Fetched, 0)),
             Phase::Sound(summary) => {
                 let Some(extent) = summary.whole() else {
-                    return Err(refusal(Fault::Gathering));
+                    return Err(Layer::Receiver.refusal(Fault::Gathering, 0));
                 };
                 if extent.length > buffer.len() {
-                    return Err(refusal(Fault::BufferLength));
+                    return Err(Layer::Receiver.refusal(Fault::BufferLength, 0));
                 }
                 join(&self.shelf, k, extent.pieces as usize, buffer);
                 self.shelf.clear(k);

@@ -1,13 +1,12 @@
 // The steps of the receiver's calls that change nothing of it.
 ghost use Rattle.std.specs.Prelude.{◌≡◌, ℕ, ◌≤◌, ◌↔◌, IsTrue, List, ◌++◌, length, MatchOption};
-ghost use Rattle.wire.specs.Refusals.{fault_number};
 ghost use Rattle.packet.specs.Limits.{max_id};
 ghost use Rattle.packet.specs.Packets.{InRange, shown as packet-shown};
 ghost use Rattle.collection.specs.Fragments.{FragmentValue, joined};
 ghost use Rattle.collection.specs.Kept.{Open, shown};
 ghost use Rattle.history.specs.Stays.{fragment_of};
 ghost use Rattle.receiver.specs.Slots.{Bears};
-ghost use Rattle.receiver.specs.Parts.{ReceiverRefusal, Absent, OwnSlot, AllTaken, FreeSlot, Home, Crowded, Begun, Completes, Joins};
+ghost use Rattle.receiver.specs.Parts.{Absent, OwnSlot, AllTaken, FreeSlot, Home, Crowded, Begun, Completes, Joins};
 
 use crate::answers::Outcome;
 use crate::stay::{Phase, Stay};
@@ -16,17 +15,6 @@ use collection::fragment::Fragment;
 use collection::summary::Summary;
 use packet::Packet;
 use shelf::Shelf;
-use wire::refusal::{Fault, Layer, Refusal};
-
-pub(crate) fn refusal(fault: Fault) -> Refusal
-    ensures { ReceiverRefusal (fault_number fault) result }
-{
-    Refusal {
-        fault,
-        place: 0,
-        layer: Layer::Receiver,
-    }
-}
 
 // Whether the slot holds a stay of the id.
 fn bears(slot: &Option<Stay>, id: &[u8]) -> bool
