@@ -27,20 +27,20 @@ copied_fits piece buffer = elim (cases_lt (length buffer) (length piece)) [
   | inr l ↦ let e : leb (length piece) (length buffer) ≡ true = le-leb _ _ l in grind (arith, nat_tests)
 ]
 
-pub join_ends : (r : ℕ) (piece buffer : List ℕ) (at end : ℕ) → length buffer ≡ end → at ≤ end → r ≡ copied_length piece (mid_of at (end - at) buffer) → at + r ≤ end
-join_ends r piece buffer at end e le is = omega (arith, is, copied_fits piece (mid_of at (end - at) buffer), length-take (end - at) (drop at buffer))
+pub join_ends : (r : ℕ) (piece buffer : List ℕ) (at : ℕ) → at ≤ length buffer → r ≡ copied_length piece (mid_of at (length buffer - at) buffer) → at + r ≤ length buffer
+join_ends r piece buffer at le is = omega (arith, is, copied_fits piece (mid_of at (length buffer - at) buffer), length-take (length buffer - at) (drop at buffer))
 
 -- one piece more, where `done` is joined already
-module _ (done piece was buffer part : List ℕ) (at end r : ℕ) (at_is : at ≡ length done) (buffer_is : buffer ≡ done ++ drop at was) (end_is : end ≡ length was) (room : at + length piece ≤ end)
-    (wrote : part ≡ copied_over piece (mid_of at (end - at) buffer)) (told : r ≡ copied_length piece (mid_of at (end - at) buffer)) where
+module _ (done piece was buffer part : List ℕ) (at r : ℕ) (at_is : at ≡ length done) (buffer_is : buffer ≡ done ++ drop at was) (long : length buffer ≡ length was) (room : at + length piece ≤ length was)
+    (wrote : part ≡ copied_over piece (mid_of at (length buffer - at) buffer)) (told : r ≡ copied_length piece (mid_of at (length buffer - at) buffer)) where
   rest : drop at buffer ≡ drop at was
   rest = ap (λ (n : ℕ). drop n buffer) at_is ∙ ap (drop (length done)) buffer_is ∙ drop-append_seam done (drop at was)
 
-  mid : mid_of at (end - at) buffer ≡ drop at was
-  mid = ap (take (end - at)) rest ∙ take_all (end - at) (drop at was) (omega (arith, length-drop at was))
+  mid : mid_of at (length buffer - at) buffer ≡ drop at was
+  mid = ap (take (length buffer - at)) rest ∙ take_all (length buffer - at) (drop at was) (omega (arith, length-drop at was))
 
-  post : post_of at (end - at) buffer ≡ []
-  post = ap (drop (end - at)) rest ∙ drop_all (end - at) (drop at was) (omega (arith, length-drop at was))
+  post : post_of at (length buffer - at) buffer ≡ []
+  post = ap (drop (length buffer - at)) rest ∙ drop_all (length buffer - at) (drop at was) (omega (arith, length-drop at was))
 
   front : take at buffer ≡ done
   front = ap (λ (n : ℕ). take n buffer) at_is ∙ ap (take (length done)) buffer_is ∙ take-append_seam done (drop at was)
@@ -51,8 +51,8 @@ module _ (done piece was buffer part : List ℕ) (at end r : ℕ) (at_is : at �
   pub join_count : r ≡ length piece
   join_count = told ∙ ap (λ (x : List ℕ). copied_length piece x) mid ∙ ap (λ (b : Bool). cond b (length piece) 0) (le-leb (length piece) (length (drop at was)) (omega (arith, length-drop at was)))
 
-  pub join_more : put_mid at (end - at) buffer part ≡ (done ++ piece) ++ drop (at + r) was
+  pub join_more : put_mid at (length buffer - at) buffer part ≡ (done ++ piece) ++ drop (at + r) was
   join_more =
       let s : part ≡ piece ++ drop (at + r) was = wrote ∙ ap (λ (x : List ℕ). copied_over piece x) mid ∙ fits ∙ ap (λ (x : List ℕ). piece ++ x) (drop-drop (length piece) at was ∙ ap (λ (n : ℕ). drop (at + n) was) (sym join_count)) in
-      ap (λ (x : List ℕ). x ++ (part ++ post_of at (end - at) buffer)) front ∙ ap (λ (x : List ℕ). done ++ (part ++ x)) post
+      ap (λ (x : List ℕ). x ++ (part ++ post_of at (length buffer - at) buffer)) front ∙ ap (λ (x : List ℕ). done ++ (part ++ x)) post
       ∙ ap (λ (x : List ℕ). done ++ x) (append-nil part) ∙ ap (λ (x : List ℕ). done ++ x) s ∙ sym (append_assoc done piece (drop (at + r) was))

@@ -39,7 +39,8 @@ impl<S: Shelf> Receiver<S> {
     /// Its promise `law` is that of the receiver as a whole: what holds of every run of calls from here.
     pub fn new(shelf: S, patience: u16) -> Receiver<S>
         ensures law { Lawful (seen S.Shelf result) }
-        ensures patience { result.patience ≡ (if nat_eq patience 0 then default_patience else patience) }
+        ensures patience { result.patience ≡
+            (if nat_eq patience 0 then default_patience else patience) }
         ensures shelf { SameShelf (held S.Shelf shelf) (held S.Shelf result.shelf) }
     {
         let mut shelf = shelf;
@@ -62,7 +63,8 @@ impl<S: Shelf> Receiver<S> {
 
     /// Hears a datagram, and answers what became of its packet, or why it is refused.
     pub fn arrive(&mut self, datagram: &[u8]) -> Result<Outcome, Refusal>
-        ensures { Step (arrives datagram.now) (arrival_reply result) (seen S.Shelf self.old) (seen S.Shelf self.new) }
+        ensures { Step (arrives datagram.now) (arrival_reply result)
+            (seen S.Shelf self.old) (seen S.Shelf self.new) }
     {
         let answer = self.hear(datagram);
         if answer.is_err() {
@@ -73,7 +75,8 @@ impl<S: Shelf> Receiver<S> {
 
     // Hears a datagram, and leaves it to the caller to count the refused ones.
     fn hear(&mut self, datagram: &[u8]) -> Result<Outcome, Refusal>
-        ensures { Uncounted (arrives datagram.now) (arrival_reply result) (seen S.Shelf self.old) (seen S.Shelf self.new) }
+        ensures { Uncounted (arrives datagram.now) (arrival_reply result)
+            (seen S.Shelf self.old) (seen S.Shelf self.new) }
     {
         let packet = Packet::read(datagram)?;
         let Some(k) = place(&self.slots, packet.id) else {
@@ -88,7 +91,8 @@ impl<S: Shelf> Receiver<S> {
     // Takes a packet into the slot `at`, whose stay is this as the packet finds it.
     fn take_in(&mut self, at: usize, stay: Stay, fragment: Fragment) -> Result<Outcome, Refusal>
         requires { at < max_slots }
-        ensures { TakenIn at (shown fragment.entry) (arrival_reply result) stay (seen S.Shelf self.old) (seen S.Shelf self.new) }
+        ensures { TakenIn at (shown fragment.entry) (arrival_reply result) stay
+            (seen S.Shelf self.old) (seen S.Shelf self.new) }
     {
         match stay.phase {
             Phase::Fetched => {
@@ -123,8 +127,10 @@ impl<S: Shelf> Receiver<S> {
 
     /// Writes the message of an id at the start of the buffer, and answers its length.
     pub fn fetch(&mut self, id: &[u8], buffer: &mut [u8]) -> Result<usize, Refusal>
-        ensures step { Step (fetches id.now (length buffer.old)) (fetch_reply result buffer.new) (seen S.Shelf self.old) (seen S.Shelf self.new) }
-        ensures buffer { (h : History) → Explains h (seen S.Shelf self.old) → Handed result buffer.old buffer.new }
+        ensures step { Step (fetches id.now (length buffer.old)) (fetch_reply result buffer.new)
+            (seen S.Shelf self.old) (seen S.Shelf self.new) }
+        ensures buffer { (h : History) → Explains h (seen S.Shelf self.old)
+            → Handed result buffer.old buffer.new }
     {
         let Some((k, stay)) = self.stay_of(id) else {
             return Err(Layer::Receiver.refusal(Fault::NoSlot, 0));
@@ -150,7 +156,8 @@ impl<S: Shelf> Receiver<S> {
 
     // The stay that an id is in, after its slot.
     fn stay_of(&self, id: &[u8]) -> Option<(usize, Stay)>
-        ensures { MatchOption result (Absent self.now.slots id.now) (λ x. OwnStay self.now.slots id.now x.0 x.1) }
+        ensures { MatchOption result (Absent self.now.slots id.now)
+            (λ x. OwnStay self.now.slots id.now x.0 x.1) }
     {
         let k = own_slot(&self.slots, id)?;
         let stay = self.slots[k]?;
@@ -176,7 +183,8 @@ impl<S: Shelf> Receiver<S> {
 
     /// The state of an id, and how many arrivals were refused.
     pub fn state(&self, id: &[u8]) -> Status
-        ensures { Step (asks id.now) (status_reply result) (seen S.Shelf self.now) (seen S.Shelf self.now) }
+        ensures { Step (asks id.now) (status_reply result)
+            (seen S.Shelf self.now) (seen S.Shelf self.now) }
     {
         Status {
             state: self.id_state(id),

@@ -74,7 +74,8 @@ pub(crate) fn fragment_of<'a>(packet: Packet<'a>) -> Fragment<'a>
 
 /// What a new packet comes to, with which the summary is this.
 pub(crate) fn completion(summary: Summary) -> Outcome
-    ensures { (ps : List FragmentValue) (piece : ℕ → List ℕ) → Open ps summary piece → Completes ps result }
+    ensures { (ps : List FragmentValue) (piece : ℕ → List ℕ)
+        → Open ps summary piece → Completes ps result }
 {
     if summary.whole().is_some() {
         Outcome::Whole
@@ -88,8 +89,7 @@ pub(crate) fn join<S: Shelf>(shelf: &S, k: usize, count: usize, buffer: &mut [u8
     ensures { Joins (joined (S.Shelf.piece shelf.now k) count) buffer.old buffer.new }
 {
     let mut at = 0;
-    let end = buffer.len();
     for number in 0..count {
-        at += shelf.copy_out(k, number, &mut buffer[at..end]);
+        at += shelf.copy_out(k, number, &mut buffer[at..]);
     }
 }

@@ -1,4 +1,4 @@
-use Rattle.std.proofs.Common.{◌≡◌, ℕ, suc, ◌+◌, ◌≤◌, List, ◌++◌, length, drop, sym, refl, ap, ◌∙◌, add-one, arith, length-append, rules}
+use Rattle.std.proofs.Common.{◌≡◌, ℕ, suc, ◌+◌, ◌≤◌, List, ◌++◌, length, drop, sym, ap, ◌∙◌, add-one, arith, length-append, rules}
 use Rattle.collection.specs.Fragments.{joined}
 use Rattle.receiver.proofs.Joins.{joined_none, joined_more, joined_le, join_count, join_more, join_ends}
 use Rattle.receiver.proofs.steps.join.Goals as goal
@@ -11,7 +11,7 @@ loop-number-init g c =
 
 pub overflow_add-at : goal.overflow_add-at
 overflow_add-at g c =
-    let r = join_ends c.copy_out-at.result _ c.loop-number.buffer c.loop-number.at (length c.args.buffer.now) c.loop-number.auto.buffer c.loop-number.invariant.0 c.copy_out-at.ensures.answer in
+    let r = join_ends c.copy_out-at.result _ c.loop-number.buffer c.loop-number.at c.loop-number.invariant.0 c.copy_out-at.ensures.answer in
     search rules
 
 pub loop-number-preserved : goal.loop-number-preserved
@@ -21,12 +21,12 @@ loop-number-preserved g c =
     let at = c.loop-number.at in
     let was = c.args.buffer.now in
     let r = c.copy_out-at.result in (
-      join_ends r _ c.loop-number.buffer at (length was) c.loop-number.auto.buffer c.loop-number.invariant.0 c.copy_out-at.ensures.answer,
+      (let e = join_ends r _ c.loop-number.buffer at c.loop-number.invariant.0 c.copy_out-at.ensures.answer in search rules),
       λ fits.
           let inv = c.loop-number.invariant.1 fits in
           let room : at + length (p n) ≤ length was = omega (arith, fits, joined_le p (suc n) c.args.count (omega arith), ap length (joined_more p n), length-append (joined p n) (p n), inv.0) in
-          let told : r ≡ length (p n) = join_count (joined p n) (p n) was c.loop-number.buffer c.copy_out-at.new.buffer at (length was) r inv.0 inv.1 refl room c.copy_out-at.ensures.wrote c.copy_out-at.ensures.answer in
+          let told : r ≡ length (p n) = join_count (joined p n) (p n) was c.loop-number.buffer c.copy_out-at.new.buffer at r inv.0 inv.1 c.loop-number.auto.buffer room c.copy_out-at.ensures.wrote c.copy_out-at.ensures.answer in
           let more : joined p (n + 1) ≡ joined p n ++ p n = ap (joined p) (add-one n) ∙ joined_more p n in
-          let is = join_more (joined p n) (p n) was c.loop-number.buffer c.copy_out-at.new.buffer at (length was) r inv.0 inv.1 refl room c.copy_out-at.ensures.wrote c.copy_out-at.ensures.answer in
+          let is = join_more (joined p n) (p n) was c.loop-number.buffer c.copy_out-at.new.buffer at r inv.0 inv.1 c.loop-number.auto.buffer room c.copy_out-at.ensures.wrote c.copy_out-at.ensures.answer in
           (omega (arith, ap length more, length-append (joined p n) (p n), inv.0, told), is ∙ ap (λ (x : List ℕ). x ++ drop (at + r) was) (sym more)),
     )

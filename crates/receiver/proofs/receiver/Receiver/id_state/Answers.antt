@@ -1,18 +1,9 @@
 use Rattle.std.proofs.Common.{refl, inl, inr}
-use Rattle.history.specs.Calls.{is_gathering, is_whole, is_spoiled, is_fetched}
-use Rattle.receiver.specs.declared.stay.Phase.TheVariants.{Sound, Spoiled, Fetched}
+use Rattle.history.specs.Calls.{is_gathering, is_whole}
+use Rattle.receiver.specs.declared.stay.Phase.TheVariants.{Sound}
 use Rattle.receiver.specs.Tables.{Seen, seen}
-use Rattle.receiver.proofs.Fetches.{ask_none, ask_due}
+use Rattle.receiver.proofs.Fetches.{ask_due}
 use Rattle.receiver.proofs.receiver.Receiver.id_state.Goals as goal
-
-pub returns-in_default : goal.returns-in_default
-returns-in_default g c = λ h ex. ask_none h (seen g.S.Shelf c.args.self.now) ex c.args.id.now c.in_default.ensures
-
-pub returns-in-Spoiled : goal.returns-in-Spoiled
-returns-in-Spoiled g c = λ h ex. ask_due h (seen g.S.Shelf c.args.self.now) ex c.args.id.now _ c.in-Some.stay c.in-Some.ensures Spoiled c.in-Spoiled.is is_spoiled refl
-
-pub returns-in-Fetched : goal.returns-in-Fetched
-returns-in-Fetched g c = λ h ex. ask_due h (seen g.S.Shelf c.args.self.now) ex c.args.id.now _ c.in-Some.stay c.in-Some.ensures Fetched c.in-Fetched.is is_fetched refl
 
 pub returns-in-Some-whole : goal.returns-in-Some-whole
 returns-in-Some-whole g c = λ h ex.
