@@ -1,6 +1,6 @@
 -- An arrival as a step.
-use Rattle.std.proofs.Common.{◌≡◌, ℕ, ◌+◌, ◌-◌, ◌<◌, min, Bool, false, cond, List, ◌∷◌, set, Some, sym, refl, ap, ◌∙◌, subst, inl, inr, arith}
-use Rattle.std.proofs.lemmas.Bool.{cases_Bool}
+use Rattle.std.proofs.Common.{◌≡◌, ℕ, ◌+◌, ◌-◌, ◌<◌, min, Bool, false, cond, List, ◌∷◌, set, Some, None, sym, refl, ap, ◌∙◌, subst, inl, inr, arith}
+use Rattle.std.proofs.lemmas.Bool.{cases_Bool, true≢false}
 use Rattle.wire.specs.Limits.{max_slots}
 use Rattle.wire.specs.Refusals.{fault_number}
 use Rattle.wire.specs.declared.refusal.Refusal.{Refusal}
@@ -16,7 +16,7 @@ use Rattle.history.proofs.Standings.{same_or, stands_one, carries_one}
 use Rattle.history.proofs.Answers.{hears_is}
 use Rattle.receiver.specs.declared.stay.Stay.{Stay as SlotStay}
 use Rattle.receiver.specs.declared.stay.Phase.{Phase}
-use Rattle.receiver.specs.Slots.{Slot, used, id_bytes, name_in, Reflects, Mirrors, Keeps, Sits, at}
+use Rattle.receiver.specs.Slots.{Slot, used, id_bytes, Reflects, Mirrors, Sits, at}
 use Rattle.receiver.specs.Tables.{Lent, Seen, Explains, KeepsSlots}
 use Rattle.receiver.specs.Parts.{Home, Crowded, Begun, PacketEffect}
 use Rattle.receiver.proofs.Rows.{row_none}
@@ -25,12 +25,10 @@ use Rattle.receiver.proofs.Collections.{listing, all_used, one_free}
 
 -- the stay as the packet finds it is that of the id
 pub begins : (unit p : ℕ) (id : List ℕ) (y : Standing) (old : Slot) (begun : SlotStay) (piece : ℕ → List ℕ) → 0 < unit → Sits unit p id y old piece → Begun old id begun → Mirrors unit (stay_of y) begun piece × (id_bytes begun.id ≡ id)
-begins unit p id outside old begun piece some si b =
-    let x = b.empty si.0 in
-    (subst (λ (f : Phase). Reflects f unit fresh piece) (sym x.1) (refl, x.2 piece si.1, row_none unit piece some si.1), b.named si.0)
-begins unit p id (inside l) old begun piece some si b =
-    let e : old ≡ Some begun = b.old si.0.0 in
-    ((subst (λ (x : Slot). Keeps unit p l x piece) e si.1).0, sym (ap name_in e) ∙ si.0.1)
+begins unit p id outside None begun piece some si b = (subst (λ (f : Phase). Reflects f unit fresh piece) (sym b.2) (refl, b.3 piece si.1, row_none unit piece some si.1), b.0)
+begins unit p id outside (Some x) begun piece some si b = absurd (true≢false si.0)
+begins unit p id (inside l) None begun piece some si b = absurd si.1
+begins unit p id (inside l) (Some x) begun piece some si b = (subst (λ (y : SlotStay). Mirrors unit l y piece) (sym b) si.1.0, ap (λ (y : SlotStay). id_bytes y.id) b ∙ si.0.1)
 
 pub greets : (unit count free p : ℕ) (id : List ℕ) (q : FragmentValue) (y : Standing) (r : Reply) (old : Slot) (piece : ℕ → List ℕ) → Sits unit p id y old piece → (used old ≡ false → count < max_slots) → PacketAnswer unit free q (stay_of y) r → PacketAnswerAt unit count free q y r
 greets unit count free p id q outside r old piece si few d = inr (few si.0, d)

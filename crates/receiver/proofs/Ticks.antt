@@ -27,9 +27,6 @@ pub record Aged (p i : ℕ) (slots : List Slot) (piece : Pieces) (slots' : List 
   pub todo : (k : ℕ) → i ≤ k → at slots' k ≡ at slots k
   pub still : (k n : ℕ) → i ≤ k → piece' k n ≡ piece k n
 
-pub aged_none : (p : ℕ) (slots : List Slot) (piece : Pieces) → Aged p 0 slots piece slots piece
-aged_none p slots piece = record { len = refl; past = λ k lt. absurd (omega arith); todo = λ k le. refl; still = λ k n le. refl }
-
 -- a free slot stays free
 pub free_later : (p : ℕ) (s : Slot) (piece : ℕ → List ℕ) → s ≡ None → Later p s s piece piece
 free_later p s piece e = record {

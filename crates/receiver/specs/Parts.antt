@@ -1,5 +1,5 @@
 -- Parts: what the steps inside of a call do.
-use Rattle.std.specs.Prelude.{◌≡◌, ℕ, ◌<◌, ◌≤◌, ◌+◌, ◌↔◌, IsTrue, min, Bool, true, false, cond, ◌⊎◌, List, [], ◌∷◌, ◌++◌, length, drop, slice_set, Some, ◌≢◌}
+use Rattle.std.specs.Prelude.{◌≡◌, ℕ, ◌<◌, ◌≤◌, ◌+◌, ◌↔◌, IsTrue, min, Bool, true, false, cond, ◌⊎◌, List, [], ◌∷◌, ◌++◌, length, drop, slice_set, Some, None, ◌≢◌}
 use Rattle.shelf.specs.Pieces.{Pieces}
 use Rattle.shelf.specs.Units.{free_units}
 use Rattle.shelf.specs.declared.Shelf.{Ghosts}
@@ -46,10 +46,9 @@ abbrev pub Crowded : List Slot → List ℕ → Type 0
 Crowded slots id = AllTaken slots × Absent slots id
 
 -- the stay in the slot s as a packet of id finds it: in a free slot one begins
-pub record Begun (s : Slot) (id : List ℕ) (r : SlotStay) : Type 0 where
-  pub named : used s ≡ false → id_bytes r.id ≡ id
-  pub empty : used s ≡ false → (c : Summary) × (r.phase ≡ Sound c) × ((piece : ℕ → List ℕ) → Bare piece → Open [] c piece)
-  pub old : used s ≡ true → s ≡ Some r
+abbrev pub Begun : Slot → List ℕ → SlotStay → Type 0
+Begun (Some s) id r = r ≡ s
+Begun None id r = (id_bytes r.id ≡ id) × (c : Summary) × (r.phase ≡ Sound c) × ((piece : ℕ → List ℕ) → Bare piece → Open [] c piece)
 
 -- the stay in another phase, at age 0
 abbrev pub turned_to : Phase → SlotStay → SlotStay

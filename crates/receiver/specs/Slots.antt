@@ -19,9 +19,11 @@ Slot = Option SlotStay
 abbrev pub used : Slot → Bool
 used s = is_some s
 
+-- the bytes of an id
 abbrev pub id_bytes : UniqueId → List ℕ
 id_bytes i = take i.count i.bytes
 
+-- the id whose stay the slot has
 abbrev pub name_in : Slot → List ℕ
 name_in None = []
 name_in (Some s) = id_bytes s.id
@@ -37,7 +39,7 @@ row unit piece = total (λ (n : ℕ). cost unit (length (piece n))) max_packets
 abbrev pub Bare : (ℕ → List ℕ) → Type 0
 Bare piece = (n : ℕ) → piece n ≡ []
 
--- what a slot in this phase and its pieces keep of the stay l
+-- what a stay in this phase, and the pieces of its slot, keep of the stay l of a history
 abbrev pub Reflects : Phase → ℕ → Stay → (ℕ → List ℕ) → Type 0
 Reflects (Sound s) unit l piece = (l.fetched ≡ false) × Open l.heard s piece × (row unit piece ≡ weight unit l.heard)
 Reflects Spoiled unit l piece = (l.fetched ≡ false) × Broken l.heard × Bare piece
