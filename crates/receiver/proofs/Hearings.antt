@@ -1,10 +1,10 @@
 -- A packet in a slot.
-use Rattle.std.proofs.Common.{◌≡◌, ℕ, ◌+◌, ◌<◌, ◌≤◌, Bool, true, false, cond, List, [], ◌∷◌, length, Some, sym, refl, ap, ◌∙◌, subst, inl, inr, arith}
+use Rattle.std.proofs.Common.{◌≡◌, ℕ, ◌+◌, ◌<◌, ◌≤◌, Bool, true, false, cond, List, [], ◌∷◌, length, set, Some, sym, refl, ap, ◌∙◌, subst, inl, inr, arith}
 use Rattle.std.proofs.lemmas.Bool.{cases_Bool, true≢false, false≢true}
 use Rattle.wire.specs.Refusals.{RefusedBy}
 use Rattle.wire.specs.declared.refusal.Refusal.{Refusal}
 use Rattle.wire.specs.declared.refusal.Layer.TheVariants.{Receiver}
-use Rattle.shelf.specs.Units.{cost}
+use Rattle.shelf.specs.Units.{cost, free_units}
 use Rattle.numbers.proofs.Digits.{has_not}
 use Rattle.collection.specs.Fragments.{FragmentValue, Ranged, Heard}
 use Rattle.collection.specs.Kept.{Open, Related, PiecePut}
@@ -20,9 +20,10 @@ use Rattle.receiver.specs.declared.stay.Phase.{Phase}
 use Rattle.receiver.specs.declared.stay.Phase.TheVariants.{Sound, Spoiled, Fetched}
 use Rattle.receiver.specs.declared.answers.Outcome.{Outcome}
 use Rattle.receiver.specs.declared.answers.Outcome.TheVariants as outcome
-use Rattle.receiver.specs.Slots.{Slot, Reflects, Mirrors, Bare, row}
+use Rattle.receiver.specs.Slots.{Slot, Reflects, Mirrors, Bare, row, at}
+use Rattle.receiver.specs.Tables.{Seen}
 use Rattle.receiver.specs.Replies.{outcome_reply, refusal_reply}
-use Rattle.receiver.specs.Parts.{PacketEffect, Completes, turned_to}
+use Rattle.receiver.specs.Parts.{PacketEffect, TakenIn, Completes, turned_to}
 use Rattle.receiver.proofs.Rows.{row_put, row_same}
 
 -- what the receiver's refusal is as a reply
@@ -80,3 +81,9 @@ module _ (unit free : ℕ) (l : Stay) (q : FragmentValue) (old : Slot) (begun : 
 
   pub fetched_heeds : Reflects Fetched unit l piece → (r : Reply) → r ≡ refused_by 25 → (t : SlotStay) → t ≡ turned_to Fetched begun → ((n : ℕ) → piece' n ≡ piece n) → PacketEffect unit free l q r old begun (Some t) piece piece'
   fetched_heeds m r e t is same = turns r t Fetched is (m.0, λ n. same n ∙ m.1 n) (after_fetch m.0 e) (ap audible e)
+
+-- a packet that leaves the shelf alone, and turns the stay of the slot k
+pub taken_still : (k : ℕ) (q : FragmentValue) (r : Reply) (begun t : SlotStay) (s : Seen)
+    → ((l : Stay) → 0 < s.terms.unit → Mirrors s.terms.unit l begun (s.piece k) → PacketEffect s.terms.unit (free_units s.terms.unit s.terms.capacity s.piece) l q r (at s.slots k) begun (Some t) (s.piece k) (s.piece k))
+    → TakenIn k q r begun s (record { terms = s.terms; slots = set s.slots k (Some t); piece = s.piece; refused = s.refused; lent = s.lent })
+taken_still k q r begun t s heeds = record { same_terms = refl; same_lent = refl; same_count = refl; others = λ t m ne. refl; new = Some t; slots = refl; heeds = heeds }

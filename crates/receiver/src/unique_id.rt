@@ -15,8 +15,7 @@ pub struct UniqueId {
 }
 
 impl UniqueId {
-    ghost use Rattle.std.specs.Prelude.{◌≡◌, ◌≤◌, length};
-    ghost use Rattle.packet.specs.Limits.{max_id};
+    ghost use Rattle.std.specs.Prelude.{◌≡◌, length};
     ghost use Rattle.receiver.specs.Slots.{id_bytes};
 
     pub(crate) fn new(id: &[u8]) -> UniqueId
@@ -24,7 +23,7 @@ impl UniqueId {
         ensures { id_bytes result ≡ id.now }
     {
         let mut bytes = [0; MAX_ID];
-        bytes[0..id.len()].copy_from_slice(id);
+        bytes[..id.len()].copy_from_slice(id);
         UniqueId {
             bytes,
             count: id.len(),
@@ -34,6 +33,6 @@ impl UniqueId {
     pub(crate) fn as_slice(&self) -> &[u8]
         ensures { result.now ≡ id_bytes self.now }
     {
-        &self.bytes[0..self.count]
+        &self.bytes[..self.count]
     }
 }

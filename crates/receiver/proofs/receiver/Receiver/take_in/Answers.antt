@@ -10,7 +10,7 @@ use Rattle.receiver.specs.Tables.{Seen, seen}
 use Rattle.receiver.proofs.Slots.{in_phase, cleared, cleared_not}
 use Rattle.receiver.proofs.Changes.{terms_as, lent_as}
 use Rattle.receiver.proofs.Puttings.{put_not, put_here, put_other_slot, put_other_number, too_few}
-use Rattle.receiver.proofs.Hearings.{refused_so, unheard_bare, new_heeds, again_heeds, clash_heeds, full_heeds, spoiled_heeds, fetched_heeds}
+use Rattle.receiver.proofs.Hearings.{refused_so, unheard_bare, new_heeds, again_heeds, clash_heeds, full_heeds, spoiled_heeds, fetched_heeds, taken_still}
 use Rattle.receiver.proofs.receiver.Receiver.take_in.Goals as goal
 
 pub returns-in-Fetched : goal.returns-in-Fetched
@@ -19,17 +19,10 @@ returns-in-Fetched g c =
     let s : Seen = seen S c.args.self.now in
     let k = c.args.at in
     let stay = c.args.stay in
-    record {
-      same_terms = refl;
-      same_lent = refl;
-      same_count = refl;
-      others = λ t m ne. refl;
-      new = Some c.turned.result;
-      slots = refl;
-      heeds = λ l some m.
-          fetched_heeds S.unit (free_units S.unit s.terms.capacity s.piece) l (shown c.args.fragment) (at s.slots k) stay (s.piece k) (s.piece k)
-          (in_phase S.unit l stay (s.piece k) Fetched c.in-Fetched.is m) _ (refused_so 25 c.refusal.result c.refusal.ensures) c.turned.result c.turned.ensures (λ n. refl);
-    }
+    let q = shown c.args.fragment in
+    taken_still k q _ stay c.turned.result s
+    (λ l some m. fetched_heeds S.unit (free_units S.unit s.terms.capacity s.piece) l q (at s.slots k) stay (s.piece k) (s.piece k)
+    (in_phase S.unit l stay (s.piece k) Fetched c.in-Fetched.is m) _ (refused_so 25 c.refusal.result c.refusal.ensures) c.turned.result c.turned.ensures (λ n. refl))
 
 pub returns-in-Spoiled : goal.returns-in-Spoiled
 returns-in-Spoiled g c =
@@ -37,18 +30,12 @@ returns-in-Spoiled g c =
     let s : Seen = seen S c.args.self.now in
     let k = c.args.at in
     let stay = c.args.stay in
-    record {
-      same_terms = refl;
-      same_lent = refl;
-      same_count = refl;
-      others = λ t m ne. refl;
-      new = Some c.turned-in-Spoiled.result;
-      slots = refl;
-      heeds = λ l some m.
-          spoiled_heeds S.unit (free_units S.unit s.terms.capacity s.piece) l (shown c.args.fragment) (at s.slots k) stay (s.piece k) (s.piece k)
-          (in_phase S.unit l stay (s.piece k) Spoiled c.in-Spoiled.is m) _ (refused_so 24 c.refusal-in-Spoiled.result c.refusal-in-Spoiled.ensures)
-          c.turned-in-Spoiled.result c.turned-in-Spoiled.ensures (λ n. refl);
-    }
+    let q = shown c.args.fragment in
+    let t = c.turned-in-Spoiled in
+    let e = c.refusal-in-Spoiled in
+    taken_still k q _ stay t.result s
+    (λ l some m. spoiled_heeds S.unit (free_units S.unit s.terms.capacity s.piece) l q (at s.slots k) stay (s.piece k) (s.piece k)
+    (in_phase S.unit l stay (s.piece k) Spoiled c.in-Spoiled.is m) _ (refused_so 24 e.result e.ensures) t.result t.ensures (λ n. refl))
 
 pub returns-in-Contradicts : goal.returns-in-Contradicts
 returns-in-Contradicts g c =
@@ -78,20 +65,14 @@ returns-in-Repeated g c =
     let s : Seen = seen S c.args.self.now in
     let k = c.args.at in
     let stay = c.args.stay in
-    record {
-      same_terms = refl;
-      same_lent = refl;
-      same_count = refl;
-      others = λ t m ne. refl;
-      new = Some c.turned-in-Repeated.result;
-      slots = refl;
-      heeds = λ l some m.
-          let sound = in_phase S.unit l stay (s.piece k) (Sound c.in-Sound.summary) c.in-Sound.is m in
-          let rel = c.in-Repeated.ensures l.heard sound.1 in
-          again_heeds S.unit (free_units S.unit s.terms.capacity s.piece) l (shown c.args.fragment) (at s.slots k) stay (s.piece k) (s.piece k)
-          c.in-Sound.summary sound some (fragment_ranged c.args.fragment) rel
-          c.turned-in-Repeated.result c.with.result c.turned-in-Repeated.ensures (c.with.ensures.again l.heard (s.piece k) sound.1 rel.0 rel.1) (λ n. refl);
-    }
+    let q = shown c.args.fragment in
+    let t = c.turned-in-Repeated in
+    taken_still k q _ stay t.result s
+    (λ l some m.
+    let sound = in_phase S.unit l stay (s.piece k) (Sound c.in-Sound.summary) c.in-Sound.is m in
+    let rel = c.in-Repeated.ensures l.heard sound.1 in
+    again_heeds S.unit (free_units S.unit s.terms.capacity s.piece) l q (at s.slots k) stay (s.piece k) (s.piece k) c.in-Sound.summary sound some (fragment_ranged c.args.fragment) rel
+    t.result c.with.result t.ensures (c.with.ensures.again l.heard (s.piece k) sound.1 rel.0 rel.1) (λ n. refl))
 
 pub returns-then-not-put : goal.returns-then-not-put
 returns-then-not-put g c =
