@@ -18,9 +18,9 @@ use Rattle.receiver.specs.declared.stay.Stay.{Stay as SlotStay}
 use Rattle.receiver.specs.declared.stay.Phase.{Phase}
 use Rattle.receiver.specs.Slots.{Slot, used, id_bytes, Reflects, Mirrors, Sits, at}
 use Rattle.receiver.specs.Tables.{Lent, Seen, Explains, KeepsSlots}
-use Rattle.receiver.specs.Parts.{Home, Crowded, Begun, PacketEffect}
+use Rattle.receiver.specs.Parts.{Home, Crowded, Begun, PacketEffect, Uncounted}
 use Rattle.receiver.proofs.Rows.{row_none}
-use Rattle.receiver.proofs.Changes.{within, found, one_step, one_keeps, quiet_step, sits_same}
+use Rattle.receiver.proofs.Changes.{within, found, one_step, one_keeps, quiet_keeps, quiet_step, sits_same}
 use Rattle.receiver.proofs.Collections.{listing, all_used, one_free}
 
 -- the stay as the packet finds it is that of the id
@@ -101,6 +101,12 @@ module _ (h : History) (s : Seen) (ex : Explains h s) (xs id : List ℕ) (q : Fr
   unfolding becomes
   arrive_keeps = one_keeps h s ex id k home (arrives xs) r standing becomes was.0 (inl (q, carries, refl)) (arrive_frame s.terms.patience xs id q carries r) new piece'
       (min (refusals_in (arrives xs) r + refusals h) most_refusals) s.lent then_sits others tidy refl
+
+-- an arrival that leaves the table and the shelf alone
+pub uncounted_still : (s : Seen) (xs : List ℕ) (r : Reply) → ((h : History) → Explains h s → ArrivalDue s.terms h xs r)
+    → ((h : History) → Explains h s → (n : ℕ) → n ≡ min (s.refused + cond (accepted r) 0 1) most_refusals
+    → Explains (record { call = arrives xs; reply = r } ∷ h) (record { terms = s.terms; slots = s.slots; piece = s.piece; refused = n; lent = s.lent })) → Uncounted (arrives xs) r s s
+uncounted_still s xs r due explained = record { same_terms = refl; same_lent = refl; same_count = refl; keeps_slots = λ h ex. quiet_keeps h s ex; due = due; explained = explained }
 
 -- no slot is left
 module _ (h : History) (s : Seen) (ex : Explains h s) (xs id : List ℕ) (q : FragmentValue) (carries : Carries xs id q) (crowded : Crowded s.slots id) (r : Reply) (is : r ≡ refused_by 21) where

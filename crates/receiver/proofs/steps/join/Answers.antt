@@ -9,11 +9,6 @@ loop-number-init g c =
     let z = joined_none p in
     (omega arith, λ fits. (sym (ap length z), sym (ap (λ (x : List ℕ). x ++ drop 0 c.args.buffer.now) z)))
 
-pub overflow_add-at : goal.overflow_add-at
-overflow_add-at g c =
-    let r = join_ends c.copy_out-at.result _ c.loop-number.buffer c.loop-number.at c.loop-number.invariant.0 c.copy_out-at.ensures.answer in
-    search rules
-
 pub loop-number-preserved : goal.loop-number-preserved
 loop-number-preserved g c =
     let p = g.S.Shelf.piece c.args.shelf.now c.args.k in

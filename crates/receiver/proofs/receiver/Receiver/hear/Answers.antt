@@ -11,8 +11,8 @@ use Rattle.receiver.specs.Parts.{Begun}
 use Rattle.receiver.specs.Replies.{arrival_reply}
 use Rattle.receiver.specs.Tables.{Seen, KeepsSlots, seen}
 use Rattle.receiver.proofs.Hearings.{refused_so}
-use Rattle.receiver.proofs.Changes.{explains_as, quiet_keeps}
-use Rattle.receiver.proofs.Arrivals.{arrival_due, arrive_step, arrive_keeps, crowd_due, crowd_step, unread_due, unread_step}
+use Rattle.receiver.proofs.Changes.{explains_as}
+use Rattle.receiver.proofs.Arrivals.{arrival_due, arrive_step, arrive_keeps, crowd_due, crowd_step, unread_due, unread_step, uncounted_still}
 use Rattle.receiver.proofs.receiver.Receiver.hear.Goals as goal
 
 pub returns-in_err-packet : goal.returns-in_err-packet
@@ -22,14 +22,8 @@ returns-in_err-packet g c =
     let bad = c.in_err-packet.ensures.answer in
     let r = arrival_reply c.from_residual.result in
     let is = ap arrival_reply (p.1 ∙ ap Err p.2) in
-    record {
-      same_terms = refl;
-      same_lent = refl;
-      same_count = refl;
-      keeps_slots = λ h ex. quiet_keeps h s ex;
-      due = λ h ex. unread_due h s ex c.args.datagram.now _ bad.0 bad.1 r is;
-      explained = λ h ex n e. unread_step h s ex c.args.datagram.now _ bad.0 bad.1 r is n e s.lent;
-    }
+    let xs = c.args.datagram.now in
+    uncounted_still s xs r (λ h ex. unread_due h s ex xs _ bad.0 bad.1 r is) (λ h ex n e. unread_step h s ex xs _ bad.0 bad.1 r is n e s.lent)
 
 pub returns-in_default : goal.returns-in_default
 returns-in_default g c =
@@ -38,14 +32,8 @@ returns-in_default g c =
     let xs = c.args.datagram.now in
     let carries : Carries xs p.id.now (fragment_of (shown p)) = record { value = shown p; encodes = c.in_ok-packet.ensures.answer; id_is = refl; says = refl } in
     let is = refused_so 21 c.refusal.result c.refusal.ensures in
-    record {
-      same_terms = refl;
-      same_lent = refl;
-      same_count = refl;
-      keeps_slots = λ h ex. quiet_keeps h s ex;
-      due = λ h ex. crowd_due h s ex xs p.id.now (fragment_of (shown p)) carries c.in_default.ensures _ is;
-      explained = λ h ex n e. crowd_step h s ex xs p.id.now (fragment_of (shown p)) carries c.in_default.ensures _ is n e s.lent;
-    }
+    let q = fragment_of (shown p) in
+    uncounted_still s xs _ (λ h ex. crowd_due h s ex xs p.id.now q carries c.in_default.ensures _ is) (λ h ex n e. crowd_step h s ex xs p.id.now q carries c.in_default.ensures _ is n e s.lent)
 
 pub returns : goal.returns
 returns g c =
