@@ -20,7 +20,7 @@ use Rattle.receiver.specs.Slots.{Slot, used, id_bytes, Reflects, Mirrors, Sits, 
 use Rattle.receiver.specs.Tables.{Lent, Seen, Explains, KeepsSlots}
 use Rattle.receiver.specs.Parts.{Home, Crowded, Begun, PacketEffect, Uncounted}
 use Rattle.receiver.proofs.Rows.{row_none}
-use Rattle.receiver.proofs.Changes.{within, found, one_step, one_keeps, quiet_keeps, quiet_step, sits_same}
+use Rattle.receiver.proofs.Changes.{left_out, within, found, one_step, one_keeps, quiet_keeps, quiet_step, sits_same}
 use Rattle.receiver.proofs.Collections.{listing, all_used, one_free}
 
 -- the stay as the packet finds it is that of the id
@@ -110,15 +110,12 @@ uncounted_still s xs r due explained = record { same_terms = refl; same_lent = r
 
 -- no slot is left
 module _ (h : History) (s : Seen) (ex : Explains h s) (xs id : List ℕ) (q : FragmentValue) (carries : Carries xs id q) (crowded : Crowded s.slots id) (r : Reply) (is : r ≡ refused_by 21) where
-  left_out : Stands s.terms.patience h id outside
-  left_out = ex.absent id (λ k lt b. crowded.1 k (omega (arith, ex.all_slots)) b)
-
   pub crowd_due : ArrivalDue s.terms h xs r
   crowd_due =
       let li = listing h s ex in
       readable id q carries (record {
         standing = outside;
-        stands = left_out;
+        stands = left_out h s ex id crowded.1;
         stays = li.0;
         listed = li.1;
         due = inl (omega (arith, li.3, all_used s.slots max_slots (λ k lt. crowded.0 k (omega (arith, ex.all_slots)))), is);
@@ -129,7 +126,7 @@ module _ (h : History) (s : Seen) (ex : Explains h s) (xs id : List ℕ) (q : Fr
   crowd_step n count lent = quiet_step h s ex (arrives xs) r n lent
       (λ i x st. elim (same_or id i) [
         | inl e ↦
-            let o : outside ≡ x = stands_one s.terms.patience h i outside x (subst (λ (m : List ℕ). Stands s.terms.patience h m outside) e left_out) st in
+            let o : outside ≡ x = stands_one s.terms.patience h i outside x (subst (λ (m : List ℕ). Stands s.terms.patience h m outside) e (left_out h s ex id crowded.1)) st in
             let c : Carries xs i q = subst (λ (m : List ℕ). Carries xs m q) e carries in
             let z : outside ≡ cond (accepted r) (inside (more q fresh)) outside = ap (λ (w : Bool). cond w (inside (more q fresh)) outside) (sym (ap accepted is)) in
             subst (λ (w : Standing). After s.terms.patience (arrives xs) r i w w) o (inl (q, c, z))

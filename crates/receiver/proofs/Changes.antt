@@ -11,7 +11,7 @@ use Rattle.history.specs.Stays.{Terms, Standing, outside, inside, After, Stands}
 use Rattle.history.proofs.Standings.{same_or}
 use Rattle.receiver.specs.Slots.{Slot, Bears, Sits, Seat, at}
 use Rattle.receiver.specs.Tables.{Lent, Seen, Explains, KeepsSlots}
-use Rattle.receiver.specs.Parts.{Home}
+use Rattle.receiver.specs.Parts.{Absent, Home}
 
 pub seat_of : (unit p : ℕ) (h : History) (id : List ℕ) (z : Standing) (s : Slot) (pc : ℕ → List ℕ) → Stands p h id z → Sits unit p id z s pc → Seat unit p h s pc
 seat_of unit p h id outside s pc st si = inl si
@@ -29,6 +29,10 @@ out_or unit p id (inside l) s pc si = inr si.0
 pub sits_same : (unit p : ℕ) (id : List ℕ) (z : Standing) (s s' : Slot) (pc pc' : ℕ → List ℕ) → s' ≡ s → ((n : ℕ) → pc' n ≡ pc n) → Sits unit p id z s pc → Sits unit p id z s' pc'
 sits_same unit p id z s s' pc pc' e f si = subst (λ (x : Slot). Sits unit p id z x pc') (sym e) (subst (λ (x : ℕ → List ℕ). Sits unit p id z s x) (sym (fun_ext f)) si)
 
+-- an id that has no slot is in no stay
+pub left_out : (h : History) (s : Seen) → Explains h s → (id : List ℕ) → Absent s.slots id → Stands s.terms.patience h id outside
+left_out h s ex id absent = ex.absent id (λ k lt b. absent k (omega (arith, ex.all_slots)) b)
+
 module _ (h : History) (s : Seen) (ex : Explains h s) (id : List ℕ) (k : ℕ) (home : Home s.slots id k) where
   pub within : k < max_slots
   within = omega (arith, home.0, ex.all_slots)
@@ -41,7 +45,7 @@ module _ (h : History) (s : Seen) (ex : Explains h s) (id : List ℕ) (k : ℕ) 
       | inr x ↦ (inside x.1, subst (λ (i : List ℕ). Stands s.terms.patience h i (inside x.1)) (sym x.2.1 ∙ own.1) x.3, (own, x.4))
     ]
     | inr free ↦ elim (ex.seats k within) [
-      | inl d ↦ (outside, ex.absent id (λ j lt b. free.1 j (omega (arith, ex.all_slots)) b), d)
+      | inl d ↦ (outside, left_out h s ex id free.1, d)
       | inr x ↦ absurd (true≢false (sym x.2.0 ∙ free.0))
     ]
   ]

@@ -9,7 +9,7 @@ use Rattle.collection.specs.Fragments.{FragmentValue, Whole, Counted, LowestUnhe
 use Rattle.collection.specs.Kept.{Open}
 use Rattle.collection.specs.declared.summary.Extent.{Extent}
 use Rattle.collection.specs.declared.summary.Summary.{Summary}
-use Rattle.history.specs.Calls.{State, Reply, History, fetches, asks, is_none, is_gathering, is_whole, is_spoiled, is_fetched, delivered, told, refused_by}
+use Rattle.history.specs.Calls.{State, Reply, History, fetches, asks, is_gathering, is_whole, is_spoiled, is_fetched, delivered, told, refused_by}
 use Rattle.history.specs.Stays.{Stay, outside, inside, fetched_now, Stands}
 use Rattle.history.specs.Answers.{FetchAnswer, gathers, spoilt, fetched_before, too_short, hands_out, FetchDue, StayState, looks_gathering, looks_whole, looks_spoiled, looks_fetched, StateDue}
 use Rattle.history.proofs.Standings.{same_or}
@@ -21,7 +21,7 @@ use Rattle.receiver.specs.Tables.{Lent, Seen, Explains, Step, KeepsSlots}
 use Rattle.receiver.specs.Replies.{refusal_reply}
 use Rattle.receiver.specs.Parts.{Home, Absent, OwnStay, turned_to}
 use Rattle.receiver.proofs.Slots.{in_phase}
-use Rattle.receiver.proofs.Changes.{one_step, one_keeps, quiet_keeps, quiet_step}
+use Rattle.receiver.proofs.Changes.{left_out, one_step, one_keeps, quiet_keeps, quiet_step}
 
 -- what is known of the extent of the message in a sound stay
 abbrev pub Extends : Summary → (ℕ → List ℕ) → Option Extent → Type 0
@@ -33,16 +33,10 @@ not_whole c piece o known e ps opened = subst (λ (w : Option Extent). MatchOpti
 complete_at : (c : Summary) (piece : ℕ → List ℕ) (o : Option Extent) → Extends c piece o → (x : Extent) → o ≡ Some x → (ps : List FragmentValue) → Open ps c piece → Complete ps piece x.pieces x.length
 complete_at c piece o known x e ps opened = subst (λ (w : Option Extent). MatchOption w (Whole ps → ⊥) (λ x. Complete ps piece x.pieces x.length)) e (known ps opened)
 
--- no slot is that of id, so it is in no stay
-module _ (h : History) (s : Seen) (ex : Explains h s) (id : List ℕ) (absent : Absent s.slots id) where
-  left_out : Stands s.terms.patience h id outside
-  left_out = ex.absent id (λ k lt b. absent k (omega (arith, ex.all_slots)) b)
+-- ---- no slot is that of the id
 
-  pub fetch_none : (n : ℕ) (r : Reply) → r ≡ refused_by 26 → FetchDue s.terms h id n r
-  fetch_none n r is = record { standing = outside; stands = left_out; due = is }
-
-  pub ask_none : StateDue s.terms h id (told is_none s.refused)
-  ask_none = record { standing = outside; stands = left_out; state = is_none; due = refl; is = ap (told is_none) ex.count }
+pub fetch_none : (h : History) (s : Seen) → Explains h s → (id : List ℕ) → Absent s.slots id → (n : ℕ) (r : Reply) → r ≡ refused_by 26 → FetchDue s.terms h id n r
+fetch_none h s ex id absent n r is = record { standing = outside; stands = left_out h s ex id absent; due = is }
 
 -- ---- a slot of its own
 
