@@ -50,7 +50,7 @@ abbrev pub Begun : Slot → List ℕ → SlotStay → Type 0
 Begun (Some s) id r = r ≡ s
 Begun None id r = (id_bytes r.id ≡ id) × (c : Summary) × (r.phase ≡ Sound c) × ((piece : ℕ → List ℕ) → Bare piece → Open [] c piece)
 
--- the stay in another phase, at age 0
+-- the stay in this phase, at age 0
 abbrev pub turned_to : Phase → SlotStay → SlotStay
 turned_to f s = record { id = s.id; age = 0; phase = f }
 

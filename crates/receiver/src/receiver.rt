@@ -154,7 +154,7 @@ impl<S: Shelf> Receiver<S> {
         }
     }
 
-    // The stay that an id is in, after its slot.
+    // The slot of an id, with its stay.
     fn stay_of(&self, id: &[u8]) -> Option<(usize, Stay)>
         ensures { MatchOption result (Absent self.now.slots id.now)
             (λ x. OwnStay self.now.slots id.now x.0 x.1) }

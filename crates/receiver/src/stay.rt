@@ -26,7 +26,7 @@ pub enum Phase {
 }
 
 impl Stay {
-    /// The stay in another phase, at age 0.
+    /// The stay in this phase, at age 0.
     pub(crate) fn turned(self, phase: Phase) -> Stay
         ensures { result ≡ turned_to phase self }
     {
