@@ -4,14 +4,16 @@ use mathlib.Core.Path.{fun_ext}
 use base.Fml.{GName}
 use Rattle.std.proofs.lemmas.Bool.{cases_eq, true≢false}
 use Rattle.wire.specs.Limits.{max_slots}
+use Rattle.shelf.specs.declared.Shelf.{Ghosts}
 use Rattle.shelf.specs.Pieces.{Pieces}
 use Rattle.shelf.specs.Units.{Tidy}
 use Rattle.history.specs.Calls.{Call, Reply, History, refusals_in, refusals, most_refusals}
 use Rattle.history.specs.Stays.{Terms, Standing, outside, inside, After, Stands}
 use Rattle.history.proofs.Standings.{same_or}
+use Rattle.receiver.specs.declared.receiver.Receiver.{Receiver}
 use Rattle.receiver.specs.Slots.{Slot, Bears, Sits, Seat, at}
-use Rattle.receiver.specs.Tables.{Lent, Seen, Explains, KeepsSlots}
-use Rattle.receiver.specs.Parts.{Absent, Home}
+use Rattle.receiver.specs.Tables.{Lent, Seen, Explains, KeepsSlots, seen}
+use Rattle.receiver.specs.Parts.{Absent, Home, OnlyAt}
 
 pub seat_of : (unit p : ℕ) (h : History) (id : List ℕ) (z : Standing) (s : Slot) (pc : ℕ → List ℕ) → Stands p h id z → Sits unit p id z s pc → Seat unit p h s pc
 seat_of unit p h id outside s pc st si = inl si
@@ -165,3 +167,14 @@ terms_as p u c c' e = ap (λ (n : ℕ). record { patience = p; unit = u; capacit
 
 pub lent_as : (l l' : GName) (r r' : List ℕ) → l' ≡ l → r' ≡ r → ◌≡◌ {A = Lent} (record { loan = l'; rest = r' }) (record { loan = l; rest = r })
 lent_as l l' r r' e f = cc
+
+-- a receiver on a shelf of which only the pieces of the slot k changed, with that slot new
+pub only_at : {X : Type 0} (S : Ghosts X) (me : Receiver X) (x : X) (k : ℕ) (new : Slot) (slots : List Slot) → slots ≡ set me.slots k new → S.capacity x ≡ S.capacity me.shelf → S.loan x ≡ S.loan me.shelf → S.rest x ≡ S.rest me.shelf
+    → ((t m : ℕ) → (t ≡ k → ⊥) → S.piece x t m ≡ S.piece me.shelf t m) → OnlyAt k new (seen S me) (seen S (record { shelf = x; slots = slots; patience = me.patience; refused = me.refused }))
+only_at S me x k new slots is size loan rest others = record {
+  same_terms = terms_as me.patience S.unit (S.capacity me.shelf) (S.capacity x) size;
+  same_lent = lent_as _ _ _ _ loan rest;
+  same_count = refl;
+  others = others;
+  slots = is;
+}

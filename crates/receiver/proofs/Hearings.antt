@@ -86,4 +86,4 @@ module _ (unit free : ℕ) (l : Stay) (q : FragmentValue) (old : Slot) (begun : 
 pub taken_still : (k : ℕ) (q : FragmentValue) (r : Reply) (begun t : SlotStay) (s : Seen)
     → ((l : Stay) → 0 < s.terms.unit → Mirrors s.terms.unit l begun (s.piece k) → PacketEffect s.terms.unit (free_units s.terms.unit s.terms.capacity s.piece) l q r (at s.slots k) begun (Some t) (s.piece k) (s.piece k))
     → TakenIn k q r begun s (record { terms = s.terms; slots = set s.slots k (Some t); piece = s.piece; refused = s.refused; lent = s.lent })
-taken_still k q r begun t s heeds = record { same_terms = refl; same_lent = refl; same_count = refl; others = λ t m ne. refl; new = Some t; slots = refl; heeds = heeds }
+taken_still k q r begun t s heeds = record { new = Some t; only_here = record { same_terms = refl; same_lent = refl; same_count = refl; others = λ t m ne. refl; slots = refl }; heeds = heeds }

@@ -1,24 +1,17 @@
 -- A tick as a step.
-use Rattle.std.proofs.Common.{◌≡◌, ℕ, zero, suc, ◌+◌, ◌<◌, ◌≤◌, true, false, ◌⊎◌, List, [], ◌∷◌, length, set, Some, None, sym, refl, ap, ◌∙◌, subst, inl, inr, arith, length-set, get_or-set_other, get_or-set_same}
+use Rattle.std.proofs.Common.{◌≡◌, ℕ, zero, suc, ◌+◌, ◌<◌, ◌≤◌, true, ◌⊎◌, List, ◌∷◌, length, None, sym, refl, ap, ◌∙◌, subst, inl, inr, arith, length-set, get_or-set_other, get_or-set_same}
 use mathlib.Core.Path.{fun_ext}
 use Rattle.std.proofs.lemmas.Bool.{cases_eq, cases_Bool, true≢false}
 use Rattle.wire.specs.Limits.{max_slots}
 use Rattle.shelf.specs.Pieces.{Pieces}
 use Rattle.shelf.specs.Units.{Tidy}
 use Rattle.history.specs.Calls.{History, ticks, done}
-use Rattle.history.specs.Stays.{later, outside, inside, Stands}
+use Rattle.history.specs.Stays.{Terms, later, outside, inside, Stands}
 use Rattle.history.proofs.Standings.{same_or}
-use Rattle.receiver.specs.declared.stay.Stay.{Stay as SlotStay}
 use Rattle.receiver.specs.Slots.{Slot, used, name_in, Bears, Keeps, Seat, at}
 use Rattle.receiver.specs.Tables.{Lent, Seen, Explains, KeepsSlots}
-use Rattle.receiver.specs.Parts.{Older}
+use Rattle.receiver.specs.Parts.{Later, SlotAged}
 use Rattle.receiver.proofs.Slots.{kept_used}
-
--- a slot and its pieces a tick later
-pub record Later (p : ℕ) (s s' : Slot) (piece piece' : ℕ → List ℕ) : Type 0 where
-  pub older : Older p s s'
-  pub bare : used s ≡ true → used s' ≡ false → (n : ℕ) → piece' n ≡ []
-  pub kept : (used s ≡ false) ⊎ (used s' ≡ true) → (n : ℕ) → piece' n ≡ piece n
 
 -- the slots below i are a tick older
 pub record Aged (p i : ℕ) (slots : List Slot) (piece : Pieces) (slots' : List Slot) (piece' : Pieces) : Type 0 where
@@ -27,49 +20,30 @@ pub record Aged (p i : ℕ) (slots : List Slot) (piece : Pieces) (slots' : List 
   pub todo : (k : ℕ) → i ≤ k → at slots' k ≡ at slots k
   pub still : (k n : ℕ) → i ≤ k → piece' k n ≡ piece k n
 
--- a free slot stays free
-pub free_later : (p : ℕ) (s : Slot) (piece : ℕ → List ℕ) → s ≡ None → Later p s s piece piece
-free_later p s piece e = record {
-  older = record { free = λ f. f; goes = λ unit l pc m. absurd (true≢false (sym (kept_used unit p l s pc m) ∙ ap used e)); named = λ _. refl };
-  bare = λ t _. absurd (true≢false (sym t ∙ ap used e));
-  kept = λ _ n. refl;
-}
-
 -- one slot more
-pub aged_more : (p i : ℕ) (slots slots1 slots2 : List Slot) (piece piece1 piece2 : Pieces) → Aged p i slots piece slots1 piece1 → length slots2 ≡ length slots1
-    → Later p (at slots1 i) (at slots2 i) (piece1 i) (piece2 i) → ((k : ℕ) → (k ≡ i → ⊥) → at slots2 k ≡ at slots1 k) → ((t n : ℕ) → (t ≡ i → ⊥) → piece2 t n ≡ piece1 t n)
-    → Aged p (i + 1) slots piece slots2 piece2
-aged_more p i slots slots1 slots2 piece piece1 piece2 aged len here other others =
-    let was : at slots1 i ≡ at slots i = aged.todo i (omega arith) in
+pub aged_more : (i : ℕ) (s m e : Seen) → Aged s.terms.patience i s.slots s.piece m.slots m.piece → m.terms ≡ s.terms → i < length m.slots → SlotAged i m e → Aged s.terms.patience (i + 1) s.slots s.piece e.slots e.piece
+aged_more i s m e aged terms lt one =
+    let p : ℕ = s.terms.patience in
+    let o = one.only_here in
+    let was : at m.slots i ≡ at s.slots i = aged.todo i (omega arith) in
+    let here : at e.slots i ≡ one.new = ap (λ (x : List Slot). at x i) o.slots ∙ get_or-set_same m.slots i one.new None lt in
+    let other : (k : ℕ) → (k ≡ i → ⊥) → at e.slots k ≡ at m.slots k = λ k ne. ap (λ (x : List Slot). at x k) o.slots ∙ get_or-set_other m.slots i k one.new None ne in
+    let later : Later p (at m.slots i) one.new (m.piece i) (e.piece i) = subst (λ (x : Terms). Later x.patience (at m.slots i) one.new (m.piece i) (e.piece i)) terms one.later in
     record {
-      len = len ∙ aged.len;
+      len = ap length o.slots ∙ length-set m.slots i one.new ∙ aged.len;
       past = λ k lk. elim (cases_eq k i) [
-        | inl e ↦
-            subst (λ (m : ℕ). Later p (at slots m) (at slots2 m) (piece m) (piece2 m)) (sym e)
-            (subst (λ (x : Slot). Later p x (at slots2 i) (piece i) (piece2 i)) was
-            (subst (λ (x : ℕ → List ℕ). Later p (at slots1 i) (at slots2 i) x (piece2 i)) (fun_ext (λ n. aged.still i n (omega arith))) here))
+        | inl same ↦
+            subst (λ (n : ℕ). Later p (at s.slots n) (at e.slots n) (s.piece n) (e.piece n)) (sym same)
+            (subst (λ (x : Slot). Later p (at s.slots i) x (s.piece i) (e.piece i)) (sym here)
+            (subst (λ (x : Slot). Later p x one.new (s.piece i) (e.piece i)) was
+            (subst (λ (x : ℕ → List ℕ). Later p (at m.slots i) one.new x (e.piece i)) (fun_ext (λ n. aged.still i n (omega arith))) later)))
         | inr ne ↦
-            let d = aged.past k (omega (arith, ne)) in
-            subst (λ (x : Slot). Later p (at slots k) x (piece k) (piece2 k)) (sym (other k ne))
-            (subst (λ (x : ℕ → List ℕ). Later p (at slots k) (at slots1 k) (piece k) x) (sym (fun_ext (λ n. others k n ne))) d)
+            subst (λ (x : Slot). Later p (at s.slots k) x (s.piece k) (e.piece k)) (sym (other k ne))
+            (subst (λ (x : ℕ → List ℕ). Later p (at s.slots k) (at m.slots k) (s.piece k) x) (sym (fun_ext (λ n. o.others k n ne))) (aged.past k (omega (arith, ne))))
       ];
       todo = λ k le. other k (λ e. omega (arith, e)) ∙ aged.todo k (omega arith);
-      still = λ k n le. others k n (λ e. omega (arith, e)) ∙ aged.still k n (omega arith);
+      still = λ k n le. o.others k n (λ e. omega (arith, e)) ∙ aged.still k n (omega arith);
     }
-
--- a free slot
-pub aged_free : (p i : ℕ) (slots slots1 : List Slot) (piece piece1 : Pieces) → Aged p i slots piece slots1 piece1 → at slots1 i ≡ None → Aged p (i + 1) slots piece slots1 piece1
-aged_free p i slots slots1 piece piece1 aged free = aged_more p i slots slots1 slots1 piece piece1 piece1 aged refl (free_later p (at slots1 i) (piece1 i) free) (λ k ne. refl) (λ t n ne. refl)
-
--- a slot that has a stay
-pub aged_stay : (p i : ℕ) (slots slots1 slots2 : List Slot) (piece piece1 piece2 : Pieces) → Aged p i slots piece slots1 piece1 → i < length slots1 → (s : SlotStay) (r : Slot) → at slots1 i ≡ Some s → slots2 ≡ set slots1 i r → Older p (Some s) r
-    → (used r ≡ false → (n : ℕ) → piece2 i n ≡ []) → (used r ≡ true → (n : ℕ) → piece2 i n ≡ piece1 i n) → ((t n : ℕ) → (t ≡ i → ⊥) → piece2 t n ≡ piece1 t n) → Aged p (i + 1) slots piece slots2 piece2
-aged_stay p i slots slots1 slots2 piece piece1 piece2 aged lt s r was is older bare kept others =
-    let turned : Later p (Some s) r (piece1 i) (piece2 i) = record { older = older; bare = λ _ f. bare f; kept = λ w. kept (elim w [ inl f ↦ absurd (true≢false f) | inr t ↦ t ]) } in
-    let here : at slots2 i ≡ r = ap (λ (x : List Slot). at x i) is ∙ get_or-set_same slots1 i r None lt in
-    aged_more p i slots slots1 slots2 piece piece1 piece2 aged (ap length is ∙ length-set slots1 i r)
-    (subst (λ (x : Slot). Later p x (at slots2 i) (piece1 i) (piece2 i)) (sym was) (subst (λ (x : Slot). Later p (Some s) x (piece1 i) (piece2 i)) (sym here) turned))
-    (λ k ne. ap (λ (x : List Slot). at x k) is ∙ get_or-set_other slots1 i k r None ne) others
 
 -- some slot below n bears id, or none does
 holder : (h : History) (s : Seen) → Explains h s → (id : List ℕ) (n : ℕ) → n ≤ max_slots → ((k : ℕ) × (k < n) × Bears (at s.slots k) id) ⊎ ((k : ℕ) → k < n → Bears (at s.slots k) id → ⊥)

@@ -75,14 +75,18 @@ pub record PacketEffect (unit free : ℕ) (l : Stay) (q : FragmentValue) (r : Re
   pub unheard : audible r ≡ false → (new ≡ old) × ((n : ℕ) → piece' n ≡ piece n)
   pub heard : audible r ≡ true → (s : SlotStay) × (new ≡ Some s) × (s.id ≡ begun.id) × (s.age ≡ 0) × Mirrors unit (more q l) s piece'
 
--- any packet q in the slot k: of the table and of the shelf, only that slot and its pieces change
-pub record TakenIn (k : ℕ) (q : FragmentValue) (r : Reply) (begun : SlotStay) (s e : Seen) : Type 0 where
+-- of the table and the shelf only the slot k, which is `new` then, and its pieces change
+pub record OnlyAt (k : ℕ) (new : Slot) (s e : Seen) : Type 0 where
   pub same_terms : e.terms ≡ s.terms
   pub same_lent : e.lent ≡ s.lent
   pub same_count : e.refused ≡ s.refused
   pub others : (t m : ℕ) → (t ≢ k) → e.piece t m ≡ s.piece t m
-  pub new : Slot
   pub slots : e.slots ≡ slice_set s.slots k new
+
+-- any packet q in the slot k
+pub record TakenIn (k : ℕ) (q : FragmentValue) (r : Reply) (begun : SlotStay) (s e : Seen) : Type 0 where
+  pub new : Slot
+  pub only_here : OnlyAt k new s e
   pub heeds : (l : Stay) → 0 < s.terms.unit → Mirrors s.terms.unit l begun (s.piece k)
       → PacketEffect s.terms.unit (free_units s.terms.unit s.terms.capacity s.piece) l q r (at s.slots k) begun new (s.piece k) (e.piece k)
 
@@ -105,6 +109,18 @@ pub record Older (p : ℕ) (s r : Slot) : Type 0 where
   pub free : used s ≡ false → used r ≡ false
   pub goes : (unit : ℕ) (l : Stay) (piece : ℕ → List ℕ) → Keeps unit p l s piece → (Survives p l × Keeps unit p (later l) r piece) ⊎ (Ends p l × (used r ≡ false))
   pub named : used r ≡ true → name_in r ≡ name_in s
+
+-- a slot and its pieces a tick later
+pub record Later (p : ℕ) (s s' : Slot) (piece piece' : ℕ → List ℕ) : Type 0 where
+  pub older : Older p s s'
+  pub bare : used s ≡ true → used s' ≡ false → (n : ℕ) → piece' n ≡ []
+  pub kept : (used s ≡ false) ⊎ (used s' ≡ true) → (n : ℕ) → piece' n ≡ piece n
+
+-- a tick passes for the slot k
+pub record SlotAged (k : ℕ) (s e : Seen) : Type 0 where
+  pub new : Slot
+  pub only_here : OnlyAt k new s e
+  pub later : Later s.terms.patience (at s.slots k) new (s.piece k) (e.piece k)
 
 -- a step that has yet to be counted
 pub record Uncounted (c : Call) (r : Reply) (s e : Seen) : Type 0 where

@@ -5,7 +5,7 @@ ghost use Rattle.collection.specs.Kept.{shown};
 ghost use Rattle.history.specs.Calls.{History, arrives, fetches, ticks, asks, done};
 ghost use Rattle.receiver.specs.Tables.{Explains, Step, seen, default_patience};
 ghost use Rattle.receiver.specs.Replies.{arrival_reply, fetch_reply, status_reply, state_of, Handed};
-ghost use Rattle.receiver.specs.Parts.{Uncounted, StateKnown, TakenIn, Absent, OwnStay, held, SameShelf};
+ghost use Rattle.receiver.specs.Parts.{Uncounted, StateKnown, TakenIn, SlotAged, Absent, OwnStay, held, SameShelf};
 ghost use Rattle.receiver.specs.Laws.{Lawful};
 
 use crate::answers::{IdState, Outcome, Status};
@@ -170,15 +170,26 @@ impl<S: Shelf> Receiver<S> {
     {
         // by index: after `iter_mut` a proof does not know the elements
         for i in 0..MAX_SLOTS {
-            if let Some(stay) = self.slots[i] {
-                let after = stay.older(self.patience);
-                if after.is_none() {
-                    self.shelf.clear(i);
-                }
-                self.slots[i] = after;
-            }
+            self.age(i);
         }
         self.shelf.tidy();
+    }
+
+    // Lets a tick pass for one slot.
+    fn age(&mut self, i: usize)
+        requires { i < max_slots }
+        ensures { SlotAged i (seen S.Shelf self.old) (seen S.Shelf self.new) }
+    {
+        let Some(stay) = self.slots[i] else {
+            return;
+        };
+        match stay.older(self.patience) {
+            Some(after) => self.slots[i] = Some(after),
+            None => {
+                self.shelf.clear(i);
+                self.slots[i] = None;
+            }
+        }
     }
 
     /// The state of an id, and how many arrivals were refused.

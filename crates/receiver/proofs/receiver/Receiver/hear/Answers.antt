@@ -50,12 +50,12 @@ returns g c =
     let t = c.take_in-answer.ensures in
     let r = arrival_reply c.take_in-answer.result in
     let begun : Begun (at s.slots k) id c.begun-stay.result = subst (λ (x : Slot). Begun x id c.begun-stay.result) (get_or_default s.slots k _ None home.0) c.begun-stay.ensures in
-    let tidy : Tidy s.terms.unit s.terms.capacity e.piece = subst (λ (x : Terms). Tidy x.unit x.capacity e.piece) t.same_terms c.tidy.ensures in
+    let tidy : Tidy s.terms.unit s.terms.capacity e.piece = subst (λ (x : Terms). Tidy x.unit x.capacity e.piece) t.only_here.same_terms c.tidy.ensures in
     record {
-      same_terms = t.same_terms;
-      same_lent = t.same_lent;
-      same_count = t.same_count;
-      keeps_slots = λ h ex. subst (λ (x : List Slot). KeepsSlots s.slots x) (sym t.slots) (arrive_keeps h s ex xs id q carries k home r c.begun-stay.result t.new e.piece begun t.heeds t.others tidy);
-      due = λ h ex. arrival_due h s ex xs id q carries k home r c.begun-stay.result t.new e.piece begun t.heeds t.others tidy;
-      explained = λ h ex n is. explains_as _ _ _ t.same_terms t.slots refl refl (arrive_step h s ex xs id q carries k home r c.begun-stay.result t.new e.piece begun t.heeds t.others tidy n is s.lent);
+      same_terms = t.only_here.same_terms;
+      same_lent = t.only_here.same_lent;
+      same_count = t.only_here.same_count;
+      keeps_slots = λ h ex. subst (λ (x : List Slot). KeepsSlots s.slots x) (sym t.only_here.slots) (arrive_keeps h s ex xs id q carries k home r c.begun-stay.result t.new e.piece begun t.heeds t.only_here.others tidy);
+      due = λ h ex. arrival_due h s ex xs id q carries k home r c.begun-stay.result t.new e.piece begun t.heeds t.only_here.others tidy;
+      explained = λ h ex n is. explains_as _ _ _ t.only_here.same_terms t.only_here.slots refl refl (arrive_step h s ex xs id q carries k home r c.begun-stay.result t.new e.piece begun t.heeds t.only_here.others tidy n is s.lent);
     }

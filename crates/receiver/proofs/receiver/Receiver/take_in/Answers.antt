@@ -1,4 +1,4 @@
-use Rattle.std.proofs.Common.{◌≡◌, ℕ, ◌∷◌, Some, sym, refl, ◌∙◌}
+use Rattle.std.proofs.Common.{◌≡◌, ℕ, ◌∷◌, Some, None, sym, refl, ◌∙◌}
 use Rattle.std.proofs.lemmas.List.{set-get_or}
 use Rattle.shelf.specs.Units.{free_units}
 use Rattle.shelf.proofs.Takings.{takes_then}
@@ -8,7 +8,7 @@ use Rattle.receiver.specs.declared.stay.Phase.TheVariants.{Sound, Spoiled, Fetch
 use Rattle.receiver.specs.Slots.{at}
 use Rattle.receiver.specs.Tables.{Seen, seen}
 use Rattle.receiver.proofs.Slots.{in_phase, cleared, cleared_not}
-use Rattle.receiver.proofs.Changes.{terms_as, lent_as}
+use Rattle.receiver.proofs.Changes.{only_at}
 use Rattle.receiver.proofs.Puttings.{put_not, put_here, put_other_slot, put_other_number, too_few}
 use Rattle.receiver.proofs.Hearings.{refused_so, unheard_bare, new_heeds, again_heeds, clash_heeds, full_heeds, spoiled_heeds, fetched_heeds, taken_still}
 use Rattle.receiver.proofs.receiver.Receiver.take_in.Goals as goal
@@ -46,12 +46,8 @@ returns-in-Contradicts g c =
     let stay = c.args.stay in
     let p' = S.piece c.clear.new.self in
     record {
-      same_terms = terms_as me.patience S.unit (S.capacity me.shelf) (S.capacity c.clear.new.self) c.clear.ensures.size;
-      same_lent = lent_as _ _ _ _ c.clear.ensures.loan c.clear.ensures.rest;
-      same_count = refl;
-      others = cleared_not s.piece p' k c.clear.ensures.after;
       new = Some c.turned-in-Contradicts.result;
-      slots = refl;
+      only_here = (let e = c.clear.ensures in only_at S me c.clear.new.self k (Some c.turned-in-Contradicts.result) _ refl e.size e.loan e.rest (cleared_not s.piece p' k e.after));
       heeds = λ l some m.
           let sound = in_phase S.unit l stay (s.piece k) (Sound c.in-Sound.summary) c.in-Sound.is m in
           clash_heeds S.unit (free_units S.unit s.terms.capacity s.piece) l (shown c.args.fragment) (at s.slots k) stay (s.piece k) (p' k)
@@ -86,12 +82,8 @@ returns-then-not-put g c =
     let same : (t n : ℕ) → p' t n ≡ s.piece t n = put_not c.put.result s.piece p' k q.number q.body c.put.ensures.after c.if-not-put.true in
     let ranged = fragment_ranged c.args.fragment in
     record {
-      same_terms = terms_as me.patience S.unit (S.capacity me.shelf) (S.capacity c.put.new.self) c.put.ensures.size;
-      same_lent = lent_as _ _ _ _ c.put.ensures.loan c.put.ensures.rest;
-      same_count = refl;
-      others = λ t m ne. same t m;
       new = at s.slots k;
-      slots = sym (set-get_or s.slots k _);
+      only_here = (let e = c.put.ensures in only_at S me c.put.new.self k (at s.slots k) me.slots (sym (set-get_or me.slots k None)) e.size e.loan e.rest (λ t m ne. same t m));
       heeds = λ l some m.
           let sound = in_phase S.unit l stay (s.piece k) (Sound c.in-Sound.summary) c.in-Sound.is m in
           let rel = c.in-New.ensures l.heard sound.1 in
@@ -114,12 +106,8 @@ returns-else-not-put g c =
     let puts = c.put.ensures.after in
     let put : PiecePut q (s.piece k) (p' k) = record { here = put_here c.put.result s.piece p' k q.number q.body puts c.if-not-put.false; there = put_other_number c.put.result s.piece p' k q.number q.body puts k } in
     record {
-      same_terms = terms_as me.patience S.unit (S.capacity me.shelf) (S.capacity c.put.new.self) c.put.ensures.size;
-      same_lent = lent_as _ _ _ _ c.put.ensures.loan c.put.ensures.rest;
-      same_count = refl;
-      others = put_other_slot c.put.result s.piece p' k q.number q.body puts;
       new = Some c.turned-in-New.result;
-      slots = refl;
+      only_here = (let e = c.put.ensures in only_at S me c.put.new.self k (Some c.turned-in-New.result) _ refl e.size e.loan e.rest (put_other_slot c.put.result s.piece p' k q.number q.body puts));
       heeds = λ l some m.
           let sound = in_phase S.unit l stay (s.piece k) (Sound c.in-Sound.summary) c.in-Sound.is m in
           let rel = c.in-New.ensures l.heard sound.1 in
