@@ -95,7 +95,7 @@ module _ (xs : List ℕ) where
   unfolding Bad
   refuse f place p w =
       let e : Refusal = record { fault = f; place = place; layer = layer.Packet } in
-      (e, refused {f = f} {place = place} xs (record { fault_is = refl; place_is = refl; by_layer = refl }) p w, flawed_none xs (fault_number f) place w)
+      (e, refused {n = fault_number f} {place = place} xs (record { number_is = refl; place_is = refl; by_layer = refl }) p w, flawed_none xs (fault_number f) place w)
 
   -- one more test
   onward : (f : Fault) (place : ℕ) → Test xs (fault_number f) ⊎ Flaw xs (fault_number f) place → Passed xs (fault_number f) ⊎ Bad xs → Passed xs (suc (fault_number f)) ⊎ Bad xs
