@@ -12,7 +12,7 @@ use Rattle.block.specs.Dumps.{is_used}
 use Rattle.blocks.specs.Parts.{in_slot, content_of, sits, sits_part, Blocks, part_in, piece_in, Sound}
 use Rattle.blocks.specs.Steps.{Freed, Cleared}
 use Rattle.blocks.proofs.Fills.{freed_unused}
-use Rattle.blocks.proofs.Sounds.{none_piece}
+use Rattle.blocks.specs.Sounds.{none_piece}
 
 freed_off : (x : List ℕ) (s n : ℕ) → Freed x → sits x s n ≡ false
 freed_off x s n f = rw (freed_unused x f)

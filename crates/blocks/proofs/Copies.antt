@@ -6,7 +6,7 @@ use Rattle.std.proofs.lemmas.Bool.{cases_lt}
 use Rattle.blocks.specs.Parts.{part_of}
 use Rattle.blocks.specs.Steps.{CopiedParts}
 use Rattle.blocks.proofs.Places.{part_long, part_inside, part_below, part_above}
-use Rattle.blocks.proofs.Cuts.{length_part, part_octet}
+use Rattle.blocks.specs.Cuts.{length_part, part_octet}
 
 -- one part more
 module _ (p u w part : List ℕ) (k : ℕ) (so_far : CopiedParts p u k w) (begins : k * 500 < length p) (room : length p ≤ length u) (part_is : part ≡ part_of p k) where

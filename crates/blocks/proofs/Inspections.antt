@@ -9,8 +9,8 @@ use Rattle.block.specs.Blocks.{Lawful}
 use Rattle.block.specs.Dumps.{block_at, block_count, is_used, used_among, Passes, Inspection}
 use Rattle.blocks.specs.Parts.{piece_in, Sound}
 use Rattle.blocks.proofs.Places.{front_block}
-use Rattle.blocks.proofs.Props.{lawful_of}
-use Rattle.blocks.proofs.Sounds.{held_used}
+use Rattle.blocks.specs.Props.{lawful_of}
+use Rattle.blocks.specs.Sounds.{held_used}
 
 -- the used blocks of a dump are those that are counted
 used_count : (xs : List ℕ) (k : ℕ) → used_among xs k ≡ count_of (λ i. is_used (block_at xs i)) k

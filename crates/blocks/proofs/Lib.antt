@@ -1,8 +1,5 @@
 pub mod Fills
 pub mod Places
-pub mod Props
-pub mod Cuts
-pub mod Sounds
 pub mod Clearings
 pub mod Storings
 pub mod Copies

@@ -12,13 +12,10 @@ use Rattle.block.specs.Blocks.{Part, InRange, Lawful, used}
 use Rattle.block.specs.Fields.{slot_in, number_in, whole_in}
 use Rattle.block.specs.Dumps.{is_used}
 use Rattle.blocks.specs.Parts.{part_of, part_from, content_of, sits, sits_part, Blocks, part_in, piece_in, Sound}
-use Rattle.blocks.specs.Steps.{range_test, NoneSits, NoneFree, Filled, StoredParts}
+use Rattle.blocks.specs.Steps.{NoneSits, NoneFree, Filled, StoredParts}
 use Rattle.blocks.proofs.Fills.{filled_sits, filled_used, filled_part, filled_whole, filled_content}
-use Rattle.blocks.proofs.Cuts.{cost_is, part_begins, length_part, part_none, parts_join}
-use Rattle.blocks.proofs.Sounds.{sits_says, none_part}
-
-pub range_facts : (slot number long : ℕ) → range_test slot number long ≡ true → (slot < 8) × (number < 64) × (0 < long) × (long ≤ 1448)
-range_facts slot number long h = (grind (arith, nat_tests), grind (arith, nat_tests), grind (arith, nat_tests), grind (arith, nat_tests))
+use Rattle.blocks.specs.Cuts.{cost_is, part_begins, length_part, part_none, parts_join}
+use Rattle.blocks.specs.Sounds.{sits_says, none_part}
 
 -- a part of bytes that are in range is in range
 pub part_range : (slot number : ℕ) (bytes : List ℕ) (k : ℕ) → slot < 8 → number < 64 → length bytes ≤ 1448 → Octets bytes → k < cost 500 (length bytes)

@@ -1,6 +1,5 @@
 -- What is found among blocks, and how they are written.
-use Rattle.std.specs.Prelude.{◌≡◌, ℕ, ◌+◌, ◌*◌, ◌/◌, ◌<◌, ◌≤◌, min, Bool, true, false, ◌&&◌, List, [], length, take, drop, ◌≢◌, nat_le, nat_lt, slice_index}
-use Rattle.wire.specs.Limits.{max_packets, max_piece, max_slots}
+use Rattle.std.specs.Prelude.{◌≡◌, ℕ, ◌+◌, ◌*◌, ◌/◌, ◌<◌, ◌≤◌, min, Bool, true, false, List, [], length, take, drop, ◌≢◌, slice_index}
 use Rattle.shelf.specs.Sums.{count_of}
 use Rattle.block.specs.Limits.{block_length, data_length}
 use Rattle.block.specs.Blocks.{Part, Lawful, used_front, free_front, sealed}
@@ -9,10 +8,6 @@ use Rattle.block.specs.Dumps.{block_at, is_used, Passes}
 use Rattle.shelf.specs.Units.{units_held, takes, Puts}
 use Rattle.blocks.specs.Limits.{max_blocks}
 use Rattle.blocks.specs.Parts.{part_of, in_slot, sits, sits_part, Blocks, part_in, piece_in, Sound}
-
--- are slot, number and length in range?
-abbrev pub range_test : ℕ → ℕ → ℕ → Bool
-range_test slot number long = nat_lt slot max_slots && (nat_lt number max_packets && (nat_lt 0 long && nat_le long max_piece))
 
 -- none of the first blocks is used for the place
 abbrev pub NoneSits : Blocks → ℕ → ℕ → ℕ → Type 0

@@ -10,6 +10,7 @@ ghost use Rattle.blocks.specs.Steps.{Filled, Freed};
 use block::{
     CHECK_AT, DATA_AT, INDEX_AT, LENGTH_AT, NUMBER_AT, SLOT_AT, STATE_AT, USED, WHOLE_AT, crc,
 };
+use shelf::Place;
 use wire::order::ByteOrder;
 
 pub(crate) fn is_used(block: &[u8]) -> bool
@@ -28,12 +29,12 @@ pub(crate) fn is_in_slot(block: &[u8], slot: usize) -> bool
 }
 
 // Whether the block is used for this part of the piece at this place.
-pub(crate) fn is_part(block: &[u8], slot: usize, number: usize, index: usize) -> bool
+pub(crate) fn is_part(block: &[u8], place: Place, index: usize) -> bool
     requires { length block.now ≡ block_length }
-    ensures { result ≡ sits_part block.now slot number index }
+    ensures { result ≡ sits_part block.now place.slot place.number index }
 {
     (block[STATE_AT] == USED
-        && (block[SLOT_AT] as usize == slot && block[NUMBER_AT] as usize == number))
+        && (block[SLOT_AT] as usize == place.slot && block[NUMBER_AT] as usize == place.number))
         && block[INDEX_AT] as usize == index
 }
 
@@ -56,23 +57,16 @@ pub(crate) fn content(block: &[u8]) -> &[u8]
 }
 
 // Writes the part of this index of a piece of `whole` bytes, and seals the block.
-pub(crate) fn fill(
-    block: &mut [u8],
-    slot: usize,
-    number: usize,
-    index: usize,
-    whole: usize,
-    bytes: &[u8],
-)
+pub(crate) fn fill(block: &mut [u8], place: Place, index: usize, whole: usize, bytes: &[u8])
     requires long { length block.old ≡ block_length }
-    requires range { InRange (part_from slot number index whole bytes.now) }
-    ensures { Filled (part_from slot number index whole bytes.now) block.new }
+    requires range { InRange (part_from place.slot place.number index whole bytes.now) }
+    ensures { Filled (part_from place.slot place.number index whole bytes.now) block.new }
 {
     let [high, low] = ByteOrder::Big.encode_u16(bytes.len() as u16);
     let [whole_high, whole_low] = ByteOrder::Big.encode_u16(whole as u16);
     block[STATE_AT] = USED;
-    block[SLOT_AT] = slot as u8;
-    block[NUMBER_AT] = number as u8;
+    block[SLOT_AT] = place.slot as u8;
+    block[NUMBER_AT] = place.number as u8;
     block[INDEX_AT] = index as u8;
     block[LENGTH_AT] = high;
     block[LENGTH_AT + 1] = low;

@@ -7,10 +7,11 @@ ghost use Rattle.block.specs.Limits.{block_length, data_length};
 ghost use Rattle.block.specs.Dumps.{block_at, Passes};
 ghost use Rattle.blocks.specs.Parts.{piece_in, Sound};
 ghost use Rattle.blocks.specs.Steps.{Made, GivenBack};
+ghost use Rattle.blocks.specs.Props.{sound_of};
+ghost use Rattle.blocks.specs.Sounds.{sound_tidy};
 
 use block::{BLOCK_LENGTH, DATA_LENGTH, dump};
-use shelf::Shelf;
-use std::mem;
+use shelf::{Place, Shelf};
 use wire::refusal::Refusal;
 
 mod fields;
@@ -56,19 +57,9 @@ impl<'a> BlockShelf<'a> {
     {
         dump::inspect(self.blocks())
     }
-
-    // A shelf without a block, to stand in for one whose memory is being written.
-    fn none() -> BlockShelf<'a> {
-        BlockShelf {
-            memory: &mut [],
-            count: 0,
-        }
-    }
 }
 
 impl<'a> Shelf for BlockShelf<'a> {
-    const UNIT: usize = DATA_LENGTH;
-
     ghost unit = { data_length };
 
     ghost piece = { λ x. piece_in (block_at x.memory.now) x.count };
@@ -82,46 +73,41 @@ impl<'a> Shelf for BlockShelf<'a> {
     fn unit_size() -> usize
         ensures { result ≡ data_length }
     {
-        Self::UNIT
+        DATA_LENGTH
     }
 
-    fn tidy(&self) {}
-
-    fn put(&mut self, slot: usize, number: usize, bytes: &[u8]) -> bool {
-        let BlockShelf { memory, count } = mem::replace(self, BlockShelf::none());
-        let done = memory::put(memory, count, slot, number, bytes);
-        *self = BlockShelf { memory, count };
-        done
+    fn put(&mut self, place: Place, bytes: &[u8]) -> bool {
+        memory::put(self.memory, self.count, place, bytes)
     }
 
-    fn holds(&self, slot: usize, number: usize, bytes: &[u8]) -> bool {
-        bytes.len() > 0 && memory::is_piece(self.memory, self.count, slot, number, bytes)
+    fn holds(&self, place: Place, bytes: &[u8]) -> bool {
+        bytes.len() > 0 && memory::is_piece(self.memory, self.count, place, bytes)
     }
 
-    fn length(&self, slot: usize, number: usize) -> usize {
-        memory::piece_length(self.memory, self.count, slot, number)
+    fn length(&self, place: Place) -> usize {
+        memory::piece_length(self.memory, self.count, place)
     }
 
     fn free(&self) -> usize {
         self.count - memory::count_used(self.memory, self.count)
     }
 
-    fn copy_out(&self, slot: usize, number: usize, buffer: &mut [u8]) -> usize {
-        memory::copy_out(self.memory, self.count, slot, number, buffer)
+    fn copy_out(&self, place: Place, buffer: &mut [u8]) -> usize {
+        memory::copy_out(self.memory, self.count, place, buffer)
     }
 
     fn clear(&mut self, slot: usize) {
-        let BlockShelf { memory, count } = mem::replace(self, BlockShelf::none());
-        memory::clear(memory, count, slot);
-        *self = BlockShelf { memory, count };
+        memory::clear(self.memory, self.count, slot);
     }
+
+    ghost tidy = { λ x. sound_tidy (block_at x.memory.now) x.count (sound_of (block_at x.memory.now) x.count x.sound) };
 }
 
 /// Whether an empty shelf on this memory takes the bytes at the place. The memory is lent to such a shelf and
 /// given back; what stands in it after the blocks is as it was.
-pub fn takes_one(memory: &mut [u8], slot: usize, number: usize, bytes: &[u8]) -> bool
-    ensures { GivenBack memory.old slot number bytes.now result memory.new }
+pub fn takes_one(memory: &mut [u8], place: Place, bytes: &[u8]) -> bool
+    ensures { GivenBack memory.old place.slot place.number bytes.now result memory.new }
 {
     let mut shelf = BlockShelf::new(memory);
-    shelf.put(slot, number, bytes)
+    shelf.put(place, bytes)
 }

@@ -8,11 +8,11 @@ ghost use Rattle.block.specs.Limits.{block_length, data_length};
 ghost use Rattle.block.specs.Blocks.{InRange};
 ghost use Rattle.block.specs.Dumps.{block_at, is_used};
 ghost use Rattle.blocks.specs.Parts.{part_of, part_from, part_in, piece_in, Sound};
-ghost use Rattle.blocks.specs.Steps.{range_test, NoneSits, NonePart, LastPart, NoneFree, IsFree, Filled, Freed, OneBlock, Cleared, StoredParts, Stores};
+ghost use Rattle.blocks.specs.Steps.{NoneSits, NonePart, LastPart, NoneFree, IsFree, Filled, Freed, OneBlock, Cleared, StoredParts, Stores};
 
 use crate::fields;
 use block::{BLOCK_LENGTH, DATA_LENGTH};
-use wire::limits::{MAX_PACKETS, MAX_PIECE, MAX_SLOTS};
+use shelf::Place;
 
 // How many parts a piece of this length has.
 fn part_count(length: usize) -> usize
@@ -32,15 +32,15 @@ fn part_of(bytes: &[u8], index: usize) -> &[u8]
 }
 
 // The last block that is used for this part of the piece at this place.
-fn find_part(memory: &[u8], count: usize, slot: usize, number: usize, index: usize) -> Option<usize>
+fn find_part(memory: &[u8], count: usize, place: Place, index: usize) -> Option<usize>
     requires { count * block_length ≤ length memory.now }
     ensures { MatchOption result
-        (NonePart (block_at memory.now) count slot number index)
-        (λ i. LastPart (block_at memory.now) count slot number index i) }
+        (NonePart (block_at memory.now) count place.slot place.number index)
+        (λ i. LastPart (block_at memory.now) count place.slot place.number index i) }
 {
     for i in (0..count).rev() {
         let block = &memory[i * BLOCK_LENGTH..i * BLOCK_LENGTH + BLOCK_LENGTH];
-        if fields::is_part(block, slot, number, index) {
+        if fields::is_part(block, place, index) {
             return Some(i);
         }
     }
@@ -76,64 +76,51 @@ pub(crate) fn count_used(memory: &[u8], count: usize) -> usize
 }
 
 // One part of the piece at this place, empty where there is none.
-fn part_at<'a>(memory: &'a [u8], count: usize, slot: usize, number: usize, index: usize) -> &'a [u8]
+fn part_at<'a>(memory: &'a [u8], count: usize, place: Place, index: usize) -> &'a [u8]
     requires fits { count * block_length ≤ length memory.now }
     requires sound { Sound (block_at memory.now) count }
-    ensures { result.now ≡ part_in (block_at memory.now) count slot number index }
+    ensures { result.now ≡ part_in (block_at memory.now) count place.slot place.number index }
 {
-    match find_part(memory, count, slot, number, index) {
+    match find_part(memory, count, place, index) {
         Some(i) => fields::content(&memory[i * BLOCK_LENGTH..i * BLOCK_LENGTH + BLOCK_LENGTH]),
         None => &memory[0..0],
     }
 }
 
 // Whether this part of the piece at this place is this part of the bytes.
-fn is_part(
-    memory: &[u8],
-    count: usize,
-    slot: usize,
-    number: usize,
-    index: usize,
-    bytes: &[u8],
-) -> bool
+fn is_part(memory: &[u8], count: usize, place: Place, index: usize, bytes: &[u8]) -> bool
     requires fits { count * block_length ≤ length memory.now }
     requires sound { Sound (block_at memory.now) count }
     requires begins { index * data_length < length bytes.now }
     requires short { length bytes.now ≤ max_piece }
-    ensures { Decides result (part_in (block_at memory.now) count slot number index ≡ part_of bytes.now index) }
+    ensures { Decides result (part_in (block_at memory.now) count place.slot place.number index ≡ part_of bytes.now index) }
 {
-    part_at(memory, count, slot, number, index) == part_of(bytes, index)
+    part_at(memory, count, place, index) == part_of(bytes, index)
 }
 
 /// The length of the piece at this place, 0 where there is none.
-pub(crate) fn piece_length(memory: &[u8], count: usize, slot: usize, number: usize) -> usize
+pub(crate) fn piece_length(memory: &[u8], count: usize, place: Place) -> usize
     requires fits { count * block_length ≤ length memory.now }
     requires sound { Sound (block_at memory.now) count }
-    ensures { result ≡ length (piece_in (block_at memory.now) count slot number) }
+    ensures { result ≡ length (piece_in (block_at memory.now) count place.slot place.number) }
 {
-    match find_part(memory, count, slot, number, 0) {
+    match find_part(memory, count, place, 0) {
         Some(i) => fields::whole(&memory[i * BLOCK_LENGTH..i * BLOCK_LENGTH + BLOCK_LENGTH]),
         None => 0,
     }
 }
 
 /// Whether the piece at this place is just these bytes.
-pub(crate) fn is_piece(
-    memory: &[u8],
-    count: usize,
-    slot: usize,
-    number: usize,
-    bytes: &[u8],
-) -> bool
+pub(crate) fn is_piece(memory: &[u8], count: usize, place: Place, bytes: &[u8]) -> bool
     requires fits { count * block_length ≤ length memory.now }
     requires sound { Sound (block_at memory.now) count }
-    ensures { Decides result (piece_in (block_at memory.now) count slot number ≡ bytes.now) }
+    ensures { Decides result (piece_in (block_at memory.now) count place.slot place.number ≡ bytes.now) }
 {
-    if piece_length(memory, count, slot, number) != bytes.len() {
+    if piece_length(memory, count, place) != bytes.len() {
         return false;
     }
     for index in 0..part_count(bytes.len()) {
-        if !is_part(memory, count, slot, number, index, bytes) {
+        if !is_part(memory, count, place, index, bytes) {
             return false;
         }
     }
@@ -141,47 +128,32 @@ pub(crate) fn is_piece(
 }
 
 /// Writes the piece at the start of the buffer, if the buffer has room, and answers how much was written.
-pub(crate) fn copy_out(
-    memory: &[u8],
-    count: usize,
-    slot: usize,
-    number: usize,
-    buffer: &mut [u8],
-) -> usize
+pub(crate) fn copy_out(memory: &[u8], count: usize, place: Place, buffer: &mut [u8]) -> usize
     requires fits { count * block_length ≤ length memory.now }
     requires sound { Sound (block_at memory.now) count }
-    ensures answer { result ≡ copied_length (piece_in (block_at memory.now) count slot number) buffer.old }
-    ensures wrote { buffer.new ≡ copied_over (piece_in (block_at memory.now) count slot number) buffer.old }
+    ensures answer { result ≡ copied_length (piece_in (block_at memory.now) count place.slot place.number) buffer.old }
+    ensures wrote { buffer.new ≡ copied_over (piece_in (block_at memory.now) count place.slot place.number) buffer.old }
 {
-    let length = piece_length(memory, count, slot, number);
+    let length = piece_length(memory, count, place);
     if length > buffer.len() {
         return 0;
     }
     for index in 0..part_count(length) {
-        let part = part_at(memory, count, slot, number, index);
+        let part = part_at(memory, count, place, index);
         buffer[index * DATA_LENGTH..index * DATA_LENGTH + part.len()].copy_from_slice(part);
     }
     length
 }
 
-fn fill_at(
-    memory: &mut [u8],
-    at: usize,
-    slot: usize,
-    number: usize,
-    index: usize,
-    whole: usize,
-    bytes: &[u8],
-)
+fn fill_at(memory: &mut [u8], at: usize, place: Place, index: usize, whole: usize, bytes: &[u8])
     requires within { at * block_length + block_length ≤ length memory.old }
-    requires range { InRange (part_from slot number index whole bytes.now) }
-    ensures filled { Filled (part_from slot number index whole bytes.now) (block_at memory.new at) }
+    requires range { InRange (part_from place.slot place.number index whole bytes.now) }
+    ensures filled { Filled (part_from place.slot place.number index whole bytes.now) (block_at memory.new at) }
     ensures one { OneBlock memory.old at memory.new }
 {
     fields::fill(
         &mut memory[at * BLOCK_LENGTH..at * BLOCK_LENGTH + BLOCK_LENGTH],
-        slot,
-        number,
+        place,
         index,
         whole,
         bytes,
@@ -196,38 +168,31 @@ fn free_at(memory: &mut [u8], at: usize)
     fields::free(&mut memory[at * BLOCK_LENGTH..at * BLOCK_LENGTH + BLOCK_LENGTH]);
 }
 
-// Whether place and length are in range.
-fn in_range(slot: usize, number: usize, length: usize) -> bool
-    ensures { result ≡ range_test slot number length }
-{
-    slot < MAX_SLOTS && (number < MAX_PACKETS as usize && (0 < length && length <= MAX_PIECE))
-}
-
 // Whether the bytes are taken at this place.
-fn is_taken(memory: &[u8], count: usize, slot: usize, number: usize, bytes: &[u8]) -> bool
+fn is_taken(memory: &[u8], count: usize, place: Place, bytes: &[u8]) -> bool
     requires fits { count * block_length ≤ length memory.now }
     requires sound { Sound (block_at memory.now) count }
-    ensures { result ≡ takes data_length count (piece_in (block_at memory.now) count) slot number bytes.now }
+    ensures { result ≡ takes data_length count (piece_in (block_at memory.now) count) place.slot place.number bytes.now }
 {
-    if !in_range(slot, number, bytes.len()) {
+    if !place.in_range(bytes.len()) {
         return false;
     }
-    if piece_length(memory, count, slot, number) > 0 {
+    if piece_length(memory, count, place) > 0 {
         return false;
     }
     part_count(bytes.len()) <= count - count_used(memory, count)
 }
 
 // Puts the parts of the bytes into free blocks, wherever they stand.
-fn store(memory: &mut [u8], count: usize, slot: usize, number: usize, bytes: &[u8])
+fn store(memory: &mut [u8], count: usize, place: Place, bytes: &[u8])
     requires fits { count * block_length ≤ length memory.old }
     requires sound { Sound (block_at memory.old) count }
-    requires absent { NoneSits (block_at memory.old) count slot number }
+    requires absent { NoneSits (block_at memory.old) count place.slot place.number }
     requires room { cost data_length (length bytes.now) + count_of (λ i. is_used (block_at memory.old i)) count ≤ count }
-    requires slot { slot < max_slots }
-    requires number { number < max_packets }
+    requires slot { place.slot < max_slots }
+    requires number { place.number < max_packets }
     requires short { length bytes.now ≤ max_piece }
-    ensures stored { StoredParts (block_at memory.old) count slot number bytes.now (cost data_length (length bytes.now)) (block_at memory.new) }
+    ensures stored { StoredParts (block_at memory.old) count place.slot place.number bytes.now (cost data_length (length bytes.now)) (block_at memory.new) }
     ensures long { length memory.new ≡ length memory.old }
     ensures rest { drop (count * block_length) memory.new ≡ drop (count * block_length) memory.old }
 {
@@ -235,30 +200,22 @@ fn store(memory: &mut [u8], count: usize, slot: usize, number: usize, bytes: &[u
         let Some(at) = find_free(memory, count) else {
             return;
         };
-        fill_at(
-            memory,
-            at,
-            slot,
-            number,
-            index,
-            bytes.len(),
-            part_of(bytes, index),
-        );
+        fill_at(memory, at, place, index, bytes.len(), part_of(bytes, index));
     }
 }
 
 /// Puts the bytes into free blocks, if they are taken at this place.
-pub(crate) fn put(memory: &mut [u8], count: usize, slot: usize, number: usize, bytes: &[u8]) -> bool
+pub(crate) fn put(memory: &mut [u8], count: usize, place: Place, bytes: &[u8]) -> bool
     requires fits { count * block_length ≤ length memory.old }
     requires sound { Sound (block_at memory.old) count }
-    ensures answer { result ≡ takes data_length count (piece_in (block_at memory.old) count) slot number bytes.now }
-    ensures after { Puts result (piece_in (block_at memory.old) count) slot number bytes.now (piece_in (block_at memory.new) count) }
+    ensures answer { result ≡ takes data_length count (piece_in (block_at memory.old) count) place.slot place.number bytes.now }
+    ensures after { Puts result (piece_in (block_at memory.old) count) place.slot place.number bytes.now (piece_in (block_at memory.new) count) }
     ensures stays { Stores memory.old count memory.new }
 {
-    if !is_taken(memory, count, slot, number, bytes) {
+    if !is_taken(memory, count, place, bytes) {
         return false;
     }
-    store(memory, count, slot, number, bytes);
+    store(memory, count, place, bytes);
     true
 }
 

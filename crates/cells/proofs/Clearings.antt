@@ -8,7 +8,7 @@ use Rattle.shelf.proofs.Picks.{pick_same}
 use Rattle.wire.specs.Limits.{max_piece}
 use Rattle.cells.specs.Cells.{is_used, in_slot, content_of, sits, Noted, Freed, Cells, piece_in, Sound}
 use Rattle.cells.specs.Steps.{Cleared}
-use Rattle.cells.proofs.Sounds.{none_piece}
+use Rattle.cells.specs.Sounds.{none_piece}
 
 freed_off : (x : List ℕ) (s n : ℕ) → Freed x → sits x s n ≡ false
 freed_off x s n f = rw f.unused

@@ -8,11 +8,8 @@ use Rattle.shelf.proofs.Counts.{count_none, count_same, count_bump, count_all, c
 use Rattle.shelf.proofs.Picks.{pick_last, pick_same}
 use Rattle.wire.specs.Limits.{max_packets, max_piece, max_slots}
 use Rattle.cells.specs.Cells.{is_used, content_of, sits, Noted, Filled, Cells, piece_in, Sound}
-use Rattle.cells.specs.Steps.{range_test, NoneSits, NoneFree, IsFree}
-use Rattle.cells.proofs.Sounds.{cost_one, held_used}
-
-pub range_facts : (slot number long : ℕ) → range_test slot number long ≡ true → (slot < max_slots) × (number < max_packets) × (0 < long) × (long ≤ max_piece)
-range_facts slot number long h = (grind (arith, nat_tests), grind (arith, nat_tests), grind (arith, nat_tests), grind (arith, nat_tests))
+use Rattle.cells.specs.Steps.{NoneSits, NoneFree, IsFree}
+use Rattle.cells.specs.Sounds.{cost_one, held_used}
 
 -- where no cell is free, the units do not suffice
 pub no_room : (b : Cells) (count n : ℕ) → Sound b count → NoneFree b count → 0 < n → n ≤ max_piece → free_units max_piece count (piece_in b count) < cost max_piece n

@@ -1,3 +1,5 @@
 pub mod Limits
 pub mod Cells
 pub mod Steps
+pub mod Props
+pub mod Sounds

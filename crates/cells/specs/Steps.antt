@@ -1,13 +1,9 @@
 -- What is found among cells, and how they are written.
-use Rattle.std.specs.Prelude.{◌≡◌, ℕ, ◌+◌, ◌*◌, ◌/◌, ◌<◌, ◌≤◌, min, Bool, true, false, ◌&&◌, List, [], length, drop, ◌≢◌, nat_le, nat_lt, slice_index}
-use Rattle.wire.specs.Limits.{max_packets, max_piece, max_slots}
+use Rattle.std.specs.Prelude.{◌≡◌, ℕ, ◌+◌, ◌*◌, ◌/◌, ◌<◌, ◌≤◌, min, Bool, true, false, List, [], length, drop, ◌≢◌, slice_index}
+use Rattle.wire.specs.Limits.{max_piece}
 use Rattle.shelf.specs.Units.{takes, Puts}
 use Rattle.cells.specs.Limits.{cell_length, max_cells}
 use Rattle.cells.specs.Cells.{is_used, in_slot, sits, Freed, Cells, cell_at, piece_in, Sound}
-
--- are slot, number and length in range?
-abbrev pub range_test : ℕ → ℕ → ℕ → Bool
-range_test slot number long = nat_lt slot max_slots && (nat_lt number max_packets && (nat_lt 0 long && nat_le long max_piece))
 
 -- none of the first cells is used for the place
 abbrev pub NoneSits : Cells → ℕ → ℕ → ℕ → Type 0

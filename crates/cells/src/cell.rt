@@ -4,6 +4,7 @@ ghost use Rattle.wire.specs.Limits.{max_packets, max_piece, max_slots};
 ghost use Rattle.cells.specs.Limits.{cell_length};
 ghost use Rattle.cells.specs.Cells.{is_used, in_slot, sits, length_in, content_of, Filled, Freed};
 
+use shelf::Place;
 use wire::order::ByteOrder;
 
 /// The length of the notes.
@@ -38,11 +39,12 @@ pub(crate) fn is_in_slot(cell: &[u8], slot: usize) -> bool
 }
 
 // Whether the cell is used for this place.
-pub(crate) fn is_at(cell: &[u8], slot: usize, number: usize) -> bool
+pub(crate) fn is_at(cell: &[u8], place: Place) -> bool
     requires { length cell.now ≡ cell_length }
-    ensures { result ≡ sits cell.now slot number }
+    ensures { result ≡ sits cell.now place.slot place.number }
 {
-    cell[STATE_AT] == USED && (cell[SLOT_AT] as usize == slot && cell[NUMBER_AT] as usize == number)
+    cell[STATE_AT] == USED
+        && (cell[SLOT_AT] as usize == place.slot && cell[NUMBER_AT] as usize == place.number)
 }
 
 // The piece in the cell.
@@ -55,17 +57,17 @@ pub(crate) fn content(cell: &[u8]) -> &[u8]
     &cell[NOTES_LENGTH..NOTES_LENGTH + length]
 }
 
-pub(crate) fn fill(cell: &mut [u8], slot: usize, number: usize, bytes: &[u8])
+pub(crate) fn fill(cell: &mut [u8], place: Place, bytes: &[u8])
     requires long { length cell.old ≡ cell_length }
-    requires slot { slot < max_slots }
-    requires number { number < max_packets }
+    requires slot { place.slot < max_slots }
+    requires number { place.number < max_packets }
     requires short { length bytes.now ≤ max_piece }
-    ensures { Filled slot number bytes.now cell.new }
+    ensures { Filled place.slot place.number bytes.now cell.new }
 {
     let [high, low] = ByteOrder::Big.encode_u16(bytes.len() as u16);
     cell[STATE_AT] = USED;
-    cell[SLOT_AT] = slot as u8;
-    cell[NUMBER_AT] = number as u8;
+    cell[SLOT_AT] = place.slot as u8;
+    cell[NUMBER_AT] = place.number as u8;
     cell[LENGTH_AT] = high;
     cell[LENGTH_AT + 1] = low;
     cell[NOTES_LENGTH..NOTES_LENGTH + bytes.len()].copy_from_slice(bytes);

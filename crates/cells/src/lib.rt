@@ -6,10 +6,11 @@ ghost use Rattle.wire.specs.Limits.{max_piece};
 ghost use Rattle.cells.specs.Limits.{cell_length, max_cells};
 ghost use Rattle.cells.specs.Cells.{cell_at, piece_in, Sound};
 ghost use Rattle.cells.specs.Steps.{Made, GivenBack};
+ghost use Rattle.cells.specs.Props.{sound_of};
+ghost use Rattle.cells.specs.Sounds.{sound_tidy};
 
 pub use memory::CELL_LENGTH;
-use shelf::Shelf;
-use std::mem;
+use shelf::{Place, Shelf};
 use wire::limits::MAX_PIECE;
 
 mod cell;
@@ -39,24 +40,14 @@ impl<'a> CellShelf<'a> {
         CellShelf { memory, count }
     }
 
-    // A shelf without a cell, to stand in for one whose memory is being written.
-    fn none() -> CellShelf<'a> {
-        CellShelf {
-            memory: &mut [],
-            count: 0,
-        }
-    }
-
-    fn piece(&self, slot: usize, number: usize) -> &[u8]
-        ensures { result.now ≡ piece_in (cell_at self.now.memory.now) self.now.count slot number }
+    fn piece(&self, place: Place) -> &[u8]
+        ensures { result.now ≡ piece_in (cell_at self.now.memory.now) self.now.count place.slot place.number }
     {
-        memory::piece_at(self.memory, self.count, slot, number)
+        memory::piece_at(self.memory, self.count, place)
     }
 }
 
 impl<'a> Shelf for CellShelf<'a> {
-    const UNIT: usize = MAX_PIECE;
-
     ghost unit = { max_piece };
 
     ghost piece = { λ x. piece_in (cell_at x.memory.now) x.count };
@@ -70,32 +61,27 @@ impl<'a> Shelf for CellShelf<'a> {
     fn unit_size() -> usize
         ensures { result ≡ max_piece }
     {
-        Self::UNIT
+        MAX_PIECE
     }
 
-    fn tidy(&self) {}
-
-    fn put(&mut self, slot: usize, number: usize, bytes: &[u8]) -> bool {
-        let CellShelf { memory, count } = mem::replace(self, CellShelf::none());
-        let done = memory::put(memory, count, slot, number, bytes);
-        *self = CellShelf { memory, count };
-        done
+    fn put(&mut self, place: Place, bytes: &[u8]) -> bool {
+        memory::put(self.memory, self.count, place, bytes)
     }
 
-    fn holds(&self, slot: usize, number: usize, bytes: &[u8]) -> bool {
-        bytes.len() > 0 && self.piece(slot, number) == bytes
+    fn holds(&self, place: Place, bytes: &[u8]) -> bool {
+        bytes.len() > 0 && self.piece(place) == bytes
     }
 
-    fn length(&self, slot: usize, number: usize) -> usize {
-        self.piece(slot, number).len()
+    fn length(&self, place: Place) -> usize {
+        self.piece(place).len()
     }
 
     fn free(&self) -> usize {
         self.count - memory::count_used(self.memory, self.count)
     }
 
-    fn copy_out(&self, slot: usize, number: usize, buffer: &mut [u8]) -> usize {
-        let piece = self.piece(slot, number);
+    fn copy_out(&self, place: Place, buffer: &mut [u8]) -> usize {
+        let piece = self.piece(place);
         if piece.len() > buffer.len() {
             return 0;
         }
@@ -104,17 +90,17 @@ impl<'a> Shelf for CellShelf<'a> {
     }
 
     fn clear(&mut self, slot: usize) {
-        let CellShelf { memory, count } = mem::replace(self, CellShelf::none());
-        memory::clear(memory, count, slot);
-        *self = CellShelf { memory, count };
+        memory::clear(self.memory, self.count, slot);
     }
+
+    ghost tidy = { λ x. sound_tidy (cell_at x.memory.now) x.count (sound_of (cell_at x.memory.now) x.count x.sound) };
 }
 
 /// Whether an empty shelf on this memory takes the bytes at the place. The memory is lent to such a shelf and
 /// given back; what stands in it after the cells is as it was.
-pub fn takes_one(memory: &mut [u8], slot: usize, number: usize, bytes: &[u8]) -> bool
-    ensures { GivenBack memory.old slot number bytes.now result memory.new }
+pub fn takes_one(memory: &mut [u8], place: Place, bytes: &[u8]) -> bool
+    ensures { GivenBack memory.old place.slot place.number bytes.now result memory.new }
 {
     let mut shelf = CellShelf::new(memory);
-    shelf.put(slot, number, bytes)
+    shelf.put(place, bytes)
 }

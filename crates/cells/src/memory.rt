@@ -5,27 +5,27 @@ ghost use Rattle.shelf.specs.Sums.{count_of};
 ghost use Rattle.shelf.specs.Units.{takes, Puts, Clears};
 ghost use Rattle.cells.specs.Limits.{cell_length};
 ghost use Rattle.cells.specs.Cells.{is_used, Filled, Freed, cell_at, piece_in, Sound};
-ghost use Rattle.cells.specs.Steps.{range_test, NoneSits, LastSits, NoneFree, IsFree, OneCell, Cleared, Stores};
+ghost use Rattle.cells.specs.Steps.{NoneSits, LastSits, NoneFree, IsFree, OneCell, Cleared, Stores};
 
 use crate::cell;
 use crate::cell::NOTES_LENGTH;
-use wire::limits::{MAX_PACKETS, MAX_PIECE, MAX_SLOTS};
+use shelf::Place;
+use wire::limits::MAX_PIECE;
 
 /// The length of a cell.
 pub const CELL_LENGTH: usize = NOTES_LENGTH + MAX_PIECE;
 
 // The last cell that is used for this place.
-fn find(memory: &[u8], count: usize, slot: usize, number: usize) -> Option<usize>
+fn find(memory: &[u8], count: usize, place: Place) -> Option<usize>
     requires { count * cell_length ≤ length memory.now }
     ensures { MatchOption result
-        (NoneSits (cell_at memory.now) count slot number)
-        (λ i. LastSits (cell_at memory.now) count slot number i) }
+        (NoneSits (cell_at memory.now) count place.slot place.number)
+        (λ i. LastSits (cell_at memory.now) count place.slot place.number i) }
 {
     for i in (0..count).rev() {
         if cell::is_at(
             &memory[i * CELL_LENGTH..i * CELL_LENGTH + CELL_LENGTH],
-            slot,
-            number,
+            place,
         ) {
             return Some(i);
         }
@@ -34,12 +34,12 @@ fn find(memory: &[u8], count: usize, slot: usize, number: usize) -> Option<usize
 }
 
 // The piece at this place, empty where there is none.
-pub(crate) fn piece_at<'a>(memory: &'a [u8], count: usize, slot: usize, number: usize) -> &'a [u8]
+pub(crate) fn piece_at<'a>(memory: &'a [u8], count: usize, place: Place) -> &'a [u8]
     requires fits { count * cell_length ≤ length memory.now }
     requires sound { Sound (cell_at memory.now) count }
-    ensures { result.now ≡ piece_in (cell_at memory.now) count slot number }
+    ensures { result.now ≡ piece_in (cell_at memory.now) count place.slot place.number }
 {
-    match find(memory, count, slot, number) {
+    match find(memory, count, place) {
         Some(i) => cell::content(&memory[i * CELL_LENGTH..i * CELL_LENGTH + CELL_LENGTH]),
         None => &memory[0..0],
     }
@@ -73,18 +73,17 @@ pub(crate) fn count_used(memory: &[u8], count: usize) -> usize
     used
 }
 
-fn fill_at(memory: &mut [u8], index: usize, slot: usize, number: usize, bytes: &[u8])
+fn fill_at(memory: &mut [u8], index: usize, place: Place, bytes: &[u8])
     requires within { index * cell_length + cell_length ≤ length memory.old }
-    requires slot { slot < max_slots }
-    requires number { number < max_packets }
+    requires slot { place.slot < max_slots }
+    requires number { place.number < max_packets }
     requires short { length bytes.now ≤ max_piece }
-    ensures filled { Filled slot number bytes.now (cell_at memory.new index) }
+    ensures filled { Filled place.slot place.number bytes.now (cell_at memory.new index) }
     ensures one { OneCell memory.old index memory.new }
 {
     cell::fill(
         &mut memory[index * CELL_LENGTH..index * CELL_LENGTH + CELL_LENGTH],
-        slot,
-        number,
+        place,
         bytes,
     );
 }
@@ -97,31 +96,24 @@ fn free_at(memory: &mut [u8], index: usize)
     cell::free(&mut memory[index * CELL_LENGTH..index * CELL_LENGTH + CELL_LENGTH]);
 }
 
-// Whether place and length are in range.
-fn in_range(slot: usize, number: usize, length: usize) -> bool
-    ensures { result ≡ range_test slot number length }
-{
-    slot < MAX_SLOTS && (number < MAX_PACKETS as usize && (0 < length && length <= MAX_PIECE))
-}
-
 /// Puts the bytes into a free cell, if they are taken at this place.
-pub(crate) fn put(memory: &mut [u8], count: usize, slot: usize, number: usize, bytes: &[u8]) -> bool
+pub(crate) fn put(memory: &mut [u8], count: usize, place: Place, bytes: &[u8]) -> bool
     requires fits { count * cell_length ≤ length memory.old }
     requires sound { Sound (cell_at memory.old) count }
-    ensures answer { result ≡ takes max_piece count (piece_in (cell_at memory.old) count) slot number bytes.now }
-    ensures after { Puts result (piece_in (cell_at memory.old) count) slot number bytes.now (piece_in (cell_at memory.new) count) }
+    ensures answer { result ≡ takes max_piece count (piece_in (cell_at memory.old) count) place.slot place.number bytes.now }
+    ensures after { Puts result (piece_in (cell_at memory.old) count) place.slot place.number bytes.now (piece_in (cell_at memory.new) count) }
     ensures stays { Stores memory.old count memory.new }
 {
-    if !in_range(slot, number, bytes.len()) {
+    if !place.in_range(bytes.len()) {
         return false;
     }
-    if piece_at(memory, count, slot, number).len() > 0 {
+    if piece_at(memory, count, place).len() > 0 {
         return false;
     }
     let Some(index) = find_free(memory, count) else {
         return false;
     };
-    fill_at(memory, index, slot, number, bytes);
+    fill_at(memory, index, place, bytes);
     true
 }
 

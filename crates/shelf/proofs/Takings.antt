@@ -3,7 +3,10 @@ use Rattle.std.proofs.Common.{◌≡◌, ℕ, ◌<◌, ◌≤◌, true, false, l
 use Rattle.std.proofs.lemmas.Bool.Decides.{nat_tests}
 use Rattle.wire.specs.Limits.{max_packets, max_piece, max_slots}
 use Rattle.shelf.specs.Pieces.{Pieces}
-use Rattle.shelf.specs.Units.{cost, free_units, takes}
+use Rattle.shelf.specs.Units.{cost, free_units, range_test, takes}
+
+pub range_facts : (slot number long : ℕ) → range_test slot number long ≡ true → (slot < max_slots) × (number < max_packets) × (0 < long) × (long ≤ max_piece)
+range_facts slot number long h = (grind (arith, nat_tests), grind (arith, nat_tests), grind (arith, nat_tests), grind (arith, nat_tests))
 
 module _ (unit capacity : ℕ) (p : Pieces) (slot number : ℕ) (bytes : List ℕ) where
   -- what is so where the bytes are taken

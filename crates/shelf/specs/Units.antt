@@ -15,6 +15,10 @@ units_held unit p = over_places (λ s n. cost unit (length (p s n)))
 abbrev pub free_units : ℕ → ℕ → Pieces → ℕ
 free_units unit capacity p = capacity - units_held unit p
 
+-- are slot, number and length in range?
+abbrev pub range_test : ℕ → ℕ → ℕ → Bool
+range_test slot number long = nat_lt slot max_slots && (nat_lt number max_packets && (nat_lt 0 long && nat_le long max_piece))
+
 -- are these bytes taken at this place?
 abbrev pub takes : ℕ → ℕ → Pieces → ℕ → ℕ → List ℕ → Bool
 takes unit capacity p slot number bytes =

@@ -4,7 +4,7 @@ use Rattle.shelf.specs.Pieces.{Pieces}
 use Rattle.shelf.specs.Units.{units_held, takes, same_place}
 use Rattle.block.specs.Dumps.{block_at, Passes}
 use Rattle.blocks.specs.Parts.{piece_in}
-use Rattle.blocks.proofs.Props.{sound_of}
+use Rattle.blocks.specs.Props.{sound_of}
 use Rattle.blocks.proofs.Inspections.{sound_passes}
 use Rattle.blocks.proofs.takes_one.Goals as goal
 
@@ -25,11 +25,11 @@ returns c =
       long = search rules;
       rest_stays = search rules;
       answer_is = c.put.ensures.answer
-          ∙ (ap (λ p. takes data_length c.new-shelf.result.count p c.args.slot c.args.number c.args.bytes.now) none
-          ∙ ap (λ k. takes data_length k (λ _ _. []) c.args.slot c.args.number c.args.bytes.now) made.count_is);
+          ∙ (ap (λ p. takes data_length c.new-shelf.result.count p c.args.place.slot c.args.place.number c.args.bytes.now) none
+          ∙ ap (λ k. takes data_length k (λ _ _. []) c.args.place.slot c.args.place.number c.args.bytes.now) made.count_is);
       holds_it = λ s n.
           same_piece after.memory.now after.count (search rules) (sym (c.put.ensures.size ∙ made.count_is)) s n
-          ∙ (c.put.ensures.after s n ∙ ap (cond (c.put.result && same_place c.args.slot c.args.number s n) c.args.bytes.now) (made.empty s n));
+          ∙ (c.put.ensures.after s n ∙ ap (cond (c.put.result && same_place c.args.place.slot c.args.place.number s n) c.args.bytes.now) (made.empty s n));
       passes = same_passes after.memory.now after.count (search rules) (sym (c.put.ensures.size ∙ made.count_is))
           (sound_passes after.memory.now after.count after.fits (sound_of (block_at after.memory.now) after.count after.sound));
     }

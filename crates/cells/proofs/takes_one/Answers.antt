@@ -18,9 +18,9 @@ returns c =
       long = search rules;
       rest_stays = search rules;
       answer_is = c.put.ensures.answer
-          ∙ (ap (λ p. takes max_piece c.new-shelf.result.count p c.args.slot c.args.number c.args.bytes.now) none
-          ∙ ap (λ k. takes max_piece k (λ _ _. []) c.args.slot c.args.number c.args.bytes.now) made.count_is);
+          ∙ (ap (λ p. takes max_piece c.new-shelf.result.count p c.args.place.slot c.args.place.number c.args.bytes.now) none
+          ∙ ap (λ k. takes max_piece k (λ _ _. []) c.args.place.slot c.args.place.number c.args.bytes.now) made.count_is);
       holds_it = λ s n.
           same_piece after.memory.now after.count (search rules) (sym (c.put.ensures.size ∙ made.count_is)) s n
-          ∙ (c.put.ensures.after s n ∙ ap (cond (c.put.result && same_place c.args.slot c.args.number s n) c.args.bytes.now) (made.empty s n));
+          ∙ (c.put.ensures.after s n ∙ ap (cond (c.put.result && same_place c.args.place.slot c.args.place.number s n) c.args.bytes.now) (made.empty s n));
     }

@@ -3,7 +3,7 @@ use Rattle.std.proofs.lemmas.List.{length-take-le}
 use Rattle.shelf.specs.Units.{units_held}
 use Rattle.block.specs.Dumps.{block_at, Passes}
 use Rattle.blocks.specs.Parts.{piece_in}
-use Rattle.blocks.proofs.Props.{sound_of}
+use Rattle.blocks.specs.Props.{sound_of}
 use Rattle.blocks.proofs.Inspections.{sound_passes}
 use Rattle.blocks.proofs.BlockShelf.blocks.Goals as goal
 

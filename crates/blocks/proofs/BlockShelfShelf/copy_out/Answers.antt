@@ -1,5 +1,5 @@
 use Rattle.block.specs.Dumps.{block_at}
-use Rattle.blocks.proofs.Props.{sound_of}
+use Rattle.blocks.specs.Props.{sound_of}
 use Rattle.blocks.proofs.BlockShelfShelf.copy_out.Goals as goal
 
 pub copy_out-requires : goal.copy_out-requires

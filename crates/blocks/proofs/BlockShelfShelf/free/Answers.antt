@@ -1,8 +1,8 @@
 use Rattle.std.proofs.Common.{arith}
 use Rattle.shelf.proofs.Counts.{count_le}
 use Rattle.block.specs.Dumps.{block_at, is_used}
-use Rattle.blocks.proofs.Props.{sound_of}
-use Rattle.blocks.proofs.Sounds.{held_used}
+use Rattle.blocks.specs.Props.{sound_of}
+use Rattle.blocks.specs.Sounds.{held_used}
 use Rattle.blocks.proofs.BlockShelfShelf.free.Goals as goal
 
 pub overflow_sub-result : goal.overflow_sub-result

@@ -1,5 +1,5 @@
 use Rattle.block.specs.Dumps.{block_at}
-use Rattle.blocks.proofs.Props.{sound_of}
+use Rattle.blocks.specs.Props.{sound_of}
 use Rattle.blocks.proofs.BlockShelfShelf.length.Goals as goal
 
 pub piece_length-requires : goal.piece_length-requires

@@ -1,15 +1,6 @@
-use Rattle.std.proofs.Common.{arith}
 use Rattle.block.specs.Dumps.{block_at}
-use Rattle.blocks.proofs.Props.{sound_of}
+use Rattle.blocks.specs.Props.{sound_of}
 use Rattle.blocks.proofs.BlockShelfShelf.put.Goals as goal
 
-pub put-done-requires : goal.put-done-requires
-put-done-requires c =
-    let y = c.replace-memory.result in
-    record { fits = y.fits; sound = sound_of (block_at y.memory.now) y.count y.sound }
-
-pub invariant_of-self : goal.invariant_of-self
-invariant_of-self c =
-    let y = c.replace-memory.result in
-    let stays = c.put-done.ensures.stays in
-    record { fits = omega (arith, stays.long, y.fits); sound = ∣ stays.sound ∣₁ }
+pub put-requires-clause-sound : goal.put-requires-clause-sound
+put-requires-clause-sound c = let x = c.args.self.now in sound_of (block_at x.memory.now) x.count x.sound

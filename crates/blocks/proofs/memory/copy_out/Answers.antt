@@ -4,8 +4,8 @@ use Rattle.shelf.proofs.Copies.{copies_fit}
 use Rattle.block.specs.Dumps.{block_at}
 use Rattle.blocks.specs.Parts.{piece_in}
 use Rattle.blocks.specs.Steps.{CopiedParts}
-use Rattle.blocks.proofs.Cuts.{parts_end}
-use Rattle.blocks.proofs.Sounds.{part_there, piece_short}
+use Rattle.blocks.specs.Cuts.{parts_end}
+use Rattle.blocks.specs.Sounds.{part_there, piece_short}
 use Rattle.blocks.proofs.Copies.{copy_more, copy_all}
 use Rattle.blocks.proofs.memory.copy_out.Goals as goal
 
@@ -13,9 +13,9 @@ use Rattle.blocks.proofs.memory.copy_out.Goals as goal
 within : (c : goal.After-part_at-part) → (c.loop-index.index * 500 + length c.part_at-part.result.now ≤ length c.loop-index.buffer) × (c.loop-index.index < 3)
 within c =
     let b = block_at c.args.memory.now in
-    let there = part_there b c.args.count c.requires.sound c.args.slot c.args.number c.loop-index.index c.piece_length-length.result
+    let there = part_there b c.args.count c.requires.sound c.args.place.slot c.args.place.number c.loop-index.index c.piece_length-length.result
     c.part_at-part.result.now (omega (arith, c.part_count-index-end.ensures)) c.piece_length-length.ensures c.part_at-part.ensures in
-    let short = piece_short b c.args.count c.requires.sound c.args.slot c.args.number in
+    let short = piece_short b c.args.count c.requires.sound c.args.place.slot c.args.place.number in
     (omega (arith, c.piece_length-length.ensures), omega arith)
 
 pub overflow_mul-index : goal.overflow_mul-index
@@ -33,20 +33,20 @@ slice_bounds-copy_from_slice-end c = let w = within c in search rules
 pub loop-index-preserved : goal.loop-index-preserved
 loop-index-preserved c =
     let b = block_at c.args.memory.now in
-    let p = piece_in b c.args.count c.args.slot c.args.number in
+    let p = piece_in b c.args.count c.args.place.slot c.args.place.number in
     let u = c.args.buffer.now in
     let w = c.loop-index.buffer in
     let k = c.loop-index.index in
     let part = c.part_at-part.result.now in
     let long = c.piece_length-length.ensures in
-    let there = part_there b c.args.count c.requires.sound c.args.slot c.args.number k c.piece_length-length.result part
+    let there = part_there b c.args.count c.requires.sound c.args.place.slot c.args.place.number k c.piece_length-length.result part
     (omega (arith, c.part_count-index-end.ensures)) long c.part_at-part.ensures in
     subst (λ (y : List ℕ). CopiedParts p u (k + 1) (put_mid (k * 500) (k * 500 + length part - k * 500) w y)) (sym c.copy_from_slice.ensures.after)
     (copy_more p u w part k c.loop-index.invariant there.0 (omega arith) there.1)
 
 pub returns : goal.returns
 returns c =
-    let p = piece_in (block_at c.args.memory.now) c.args.count c.args.slot c.args.number in
+    let p = piece_in (block_at c.args.memory.now) c.args.count c.args.place.slot c.args.place.number in
     let u = c.args.buffer.now in
     let long = c.piece_length-length.ensures in
     let room : length p ≤ length u = omega arith in

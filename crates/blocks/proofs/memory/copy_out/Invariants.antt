@@ -4,4 +4,4 @@ use Rattle.blocks.specs.Steps.{CopiedParts}
 use Rattle.blocks.proofs.memory.copy_out.Given as goal
 
 abbrev pub invariant-loop-index : goal.invariant-loop-index
-invariant-loop-index l = CopiedParts (piece_in (block_at l.memory) l.count l.slot l.number) l.initial.buffer l.index l.buffer
+invariant-loop-index l = CopiedParts (piece_in (block_at l.memory) l.count l.place.slot l.place.number) l.initial.buffer l.index l.buffer

@@ -8,7 +8,7 @@ pub returns : goal.returns
 returns c =
     let m = c.args.memory.now in
     let ys = c.fill.new.block in
-    let p = part_from c.args.slot c.args.number c.args.index c.args.whole c.args.bytes.now in
+    let p = part_from c.args.place.slot c.args.place.number c.args.index c.args.whole c.args.bytes.now in
     let long = filled_long p ys c.requires.range c.fill.ensures in
     record {
       filled = block_here m ys c.args.at c.requires.within long ∙ c.fill.ensures;

@@ -9,7 +9,7 @@ pub loop-i-preserved : goal.loop-i-preserved
 loop-i-preserved c =
     let m = c.args.memory.now in
     let i = c.loop-i.i - 1 in
-    let at = λ (x : List ℕ). sits_part x c.args.slot c.args.number c.args.index in
+    let at = λ (x : List ℕ). sits_part x c.args.place.slot c.args.place.number c.args.index in
     let off : at (block_at m i) ≡ false = ap at (sym (slice_block m i)) ∙ (sym c.is_part.ensures ∙ c.if-is_part.false) in
     λ k l h. elim (cases_eq k i) [
       | inl e ↦ ap (λ x. at (block_at m x)) e ∙ off
@@ -20,7 +20,7 @@ pub returns-then-is_part : goal.returns-then-is_part
 returns-then-is_part c =
     let m = c.args.memory.now in
     let i = c.loop-i.i - 1 in
-    let at = λ (x : List ℕ). sits_part x c.args.slot c.args.number c.args.index in
+    let at = λ (x : List ℕ). sits_part x c.args.place.slot c.args.place.number c.args.index in
     record {
       within = omega arith;
       here = ap at (sym (slice_block m i)) ∙ (sym c.is_part.ensures ∙ c.if-is_part.true);

@@ -1,5 +1,5 @@
 use Rattle.std.proofs.Common.{arith}
-use Rattle.blocks.proofs.Cuts.{cost_is}
+use Rattle.blocks.specs.Cuts.{cost_is}
 use Rattle.blocks.proofs.memory.part_count.Goals as goal
 
 pub returns : goal.returns

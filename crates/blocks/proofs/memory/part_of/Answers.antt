@@ -1,5 +1,5 @@
 use Rattle.std.proofs.Common.{arith}
-use Rattle.blocks.proofs.Cuts.{slice_part}
+use Rattle.blocks.specs.Cuts.{slice_part}
 use Rattle.blocks.proofs.memory.part_of.Goals as goal
 
 pub returns : goal.returns

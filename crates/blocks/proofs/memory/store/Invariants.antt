@@ -5,6 +5,6 @@ use Rattle.blocks.proofs.memory.store.Given as goal
 
 abbrev pub invariant-loop-index : goal.invariant-loop-index
 invariant-loop-index l =
-    StoredParts (block_at l.initial.memory) l.count l.slot l.number l.bytes l.index (block_at l.memory)
+    StoredParts (block_at l.initial.memory) l.count l.place.slot l.place.number l.bytes l.index (block_at l.memory)
     × (length l.memory ≡ length l.initial.memory)
     × ((k : ℕ) → l.count * 512 ≤ k → get_or l.memory k 0 ≡ get_or l.initial.memory k 0)

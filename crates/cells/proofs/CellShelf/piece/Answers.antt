@@ -1,5 +1,5 @@
 use Rattle.cells.specs.Cells.{cell_at}
-use Rattle.cells.proofs.Props.{sound_of}
+use Rattle.cells.specs.Props.{sound_of}
 use Rattle.cells.proofs.CellShelf.piece.Goals as goal
 
 pub piece_at-requires : goal.piece_at-requires

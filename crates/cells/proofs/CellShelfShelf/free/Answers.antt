@@ -1,8 +1,8 @@
 use Rattle.std.proofs.Common.{arith}
 use Rattle.shelf.proofs.Counts.{count_le}
 use Rattle.cells.specs.Cells.{is_used, cell_at}
-use Rattle.cells.proofs.Props.{sound_of}
-use Rattle.cells.proofs.Sounds.{held_used}
+use Rattle.cells.specs.Props.{sound_of}
+use Rattle.cells.specs.Sounds.{held_used}
 use Rattle.cells.proofs.CellShelfShelf.free.Goals as goal
 
 pub overflow_sub-result : goal.overflow_sub-result

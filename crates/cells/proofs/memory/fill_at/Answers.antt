@@ -10,6 +10,6 @@ returns c =
     let j = c.args.index in
     let law = c.fill.ensures in
     record {
-      filled = subst (λ (x : List ℕ). Filled c.args.slot c.args.number c.args.bytes.now x) (sym (cell_here m ys j c.requires.within law.long)) law;
+      filled = subst (λ (x : List ℕ). Filled c.args.place.slot c.args.place.number c.args.bytes.now x) (sym (cell_here m ys j c.requires.within law.long)) law;
       one = one_cell m ys j c.requires.within law.long;
     }

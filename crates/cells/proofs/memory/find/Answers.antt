@@ -8,7 +8,7 @@ pub loop-i-preserved : goal.loop-i-preserved
 loop-i-preserved c =
     let m = c.args.memory.now in
     let i = c.loop-i.i - 1 in
-    let at = λ (x : List ℕ). sits x c.args.slot c.args.number in
+    let at = λ (x : List ℕ). sits x c.args.place.slot c.args.place.number in
     let off : at (cell_at m i) ≡ false = ap at (sym (slice_cell m i)) ∙ (sym c.is_at.ensures ∙ c.if-is_at.false) in
     λ k l h. elim (cases_eq k i) [
       | inl e ↦ ap (λ x. at (cell_at m x)) e ∙ off
@@ -19,7 +19,7 @@ pub returns-then-is_at : goal.returns-then-is_at
 returns-then-is_at c =
     let m = c.args.memory.now in
     let i = c.loop-i.i - 1 in
-    let at = λ (x : List ℕ). sits x c.args.slot c.args.number in
+    let at = λ (x : List ℕ). sits x c.args.place.slot c.args.place.number in
     record {
       within = omega arith;
       here = ap at (sym (slice_cell m i)) ∙ (sym c.is_at.ensures ∙ c.if-is_at.true);

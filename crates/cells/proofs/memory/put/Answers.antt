@@ -1,11 +1,11 @@
 use Rattle.std.proofs.Common.{◌≡◌, ◌*◌, length, sym, refl, ap, ◌∙◌, arith}
-use Rattle.shelf.proofs.Takings.{takes_not_full, takes_so}
+use Rattle.shelf.proofs.Takings.{range_facts, takes_not_full, takes_so}
 use Rattle.wire.specs.Limits.{max_piece}
 use Rattle.cells.specs.Limits.{cell_length}
 use Rattle.cells.specs.Cells.{cell_at, piece_in}
 use Rattle.cells.proofs.Places.{same_after}
-use Rattle.cells.proofs.Sounds.{none_sits}
-use Rattle.cells.proofs.Puttings.{range_facts, no_room, some_room, put_puts, put_sound}
+use Rattle.cells.specs.Sounds.{none_sits}
+use Rattle.cells.proofs.Puttings.{no_room, some_room, put_puts, put_sound}
 use Rattle.cells.proofs.memory.put.Goals as goal
 
 pub returns-in_default : goal.returns-in_default
@@ -13,9 +13,9 @@ returns-in_default c =
     let b = cell_at c.args.memory.now in
     let count = c.args.count in
     let bytes = c.args.bytes.now in
-    let range = range_facts c.args.slot c.args.number (length bytes) (sym c.in_range.ensures ∙ c.if-not-in_range.false) in
+    let range = range_facts c.args.place.slot c.args.place.number (length bytes) (sym c.in_range.ensures ∙ c.if-not-in_range.false) in
     record {
-      answer = takes_not_full max_piece count (piece_in b count) c.args.slot c.args.number bytes
+      answer = takes_not_full max_piece count (piece_in b count) c.args.place.slot c.args.place.number bytes
           (no_room b count (length bytes) c.requires.sound c.in_default.ensures range.2 range.3);
       after = λ _ _. refl;
       stays = record { long = refl; rest_stays = refl; sound = c.requires.sound };
@@ -28,8 +28,8 @@ returns c =
     let b = cell_at m in
     let d = cell_at w in
     let count = c.args.count in
-    let slot = c.args.slot in
-    let number = c.args.number in
+    let slot = c.args.place.slot in
+    let number = c.args.place.number in
     let bytes = c.args.bytes.now in
     let j = c.in-Some.index in
     let range = range_facts slot number (length bytes) (sym c.in_range.ensures ∙ c.if-not-in_range.false) in

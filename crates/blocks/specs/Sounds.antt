@@ -13,8 +13,8 @@ use Rattle.block.specs.Fields.{slot_in, number_in, index_in, length_in, whole_in
 use Rattle.block.specs.Dumps.{is_used}
 use Rattle.blocks.specs.Parts.{part_of, content_of, sits, sits_part, Blocks, part_in, piece_in, Sound}
 use Rattle.blocks.specs.Steps.{NoneSits, NonePart}
-use Rattle.blocks.proofs.Props.{found_of}
-use Rattle.blocks.proofs.Cuts.{cost_is, part_begins, parts_three, length_part, Exact, three_parts}
+use Rattle.blocks.specs.Props.{found_of}
+use Rattle.blocks.specs.Cuts.{cost_is, part_begins, parts_three, length_part, Exact, three_parts}
 
 -- a used block has a part in range
 pub part_found : (x : List ℕ) → ∥ Lawful x ∥₁ → is_used x ≡ true → PartFound x
