@@ -1,4 +1,3 @@
 pub mod Fills
-pub mod Places
 pub mod Puttings
 pub mod Clearings

@@ -1,35 +1,55 @@
 -- One more piece, in a cell that was free.
-use Rattle.std.proofs.Common.{◌≡◌, ℕ, ◌+◌, ◌<◌, ◌≤◌, true, false, List, length, sym, ap, ◌∙◌, subst, inl, inr, arith}
+use Rattle.std.proofs.Common.{◌≡◌, ℕ, ◌+◌, ◌-◌, ◌*◌, drop, ◌<◌, ◌≤◌, true, false, List, length, sym, ap, ◌∙◌, subst, inl, inr, arith}
 use Rattle.std.proofs.lemmas.Bool.{cases_Bool, cases_eq, both_ways}
 use Rattle.std.proofs.lemmas.Bool.Decides.{nat_tests}
 use Rattle.shelf.specs.Sums.{count_of}
-use Rattle.shelf.specs.Units.{cost, free_units, same_place, Puts}
+use Rattle.shelf.specs.Units.{cost, range_test, takes, same_place, Puts}
 use Rattle.shelf.proofs.Counts.{count_none, count_same, count_bump, count_all, count_lt}
+use Rattle.shelf.proofs.Takings.{range_facts, Taken, takes_not_full}
 use Rattle.shelf.proofs.Picks.{pick_last, pick_same}
-use Rattle.wire.specs.Limits.{max_packets, max_piece, max_slots}
-use Rattle.cells.specs.Cells.{is_used, content_of, sits, Noted, Filled, Cells, piece_in, Sound}
-use Rattle.cells.specs.Steps.{NoneSits, NoneFree, IsFree}
-use Rattle.cells.specs.Sounds.{cost_one, held_used}
+use Rattle.shelf.proofs.Places.{unit_here, one_unit, long_written, written_rest}
+use borrow.Rule.Slice.PartMut.{put_mid}
+use Rattle.wire.specs.Limits.{max_piece}
+use Rattle.shelf.specs.Memories.{Units, NoneFree, IsFree}
+use Rattle.cells.specs.Limits.{cell_length}
+use Rattle.cells.specs.Cells.{cell_at, is_used, content_of, sits, Noted, Filled, piece_in, Sound}
+use Rattle.cells.specs.Steps.{NoneSits}
+use Rattle.cells.specs.Sounds.{cost_one, held_used, none_sits}
 
--- where no cell is free, the units do not suffice
-pub no_room : (b : Cells) (count n : ℕ) → Sound b count → NoneFree b count → 0 < n → n ≤ max_piece → free_units max_piece count (piece_in b count) < cost max_piece n
-no_room b count n sound full some short =
-    let held = held_used b count sound in
-    let all = count_all (λ i. is_used (b i)) count full in
-    let one = cost_one n some short in
-    omega arith
+-- bytes in range, for a place that is empty
+module _ (b : Units) (count : ℕ) (sound : Sound b count) (slot number : ℕ) (bytes : List ℕ) (range : range_test slot number (length bytes) ≡ true)
+    (empty : length (piece_in b count slot number) ≡ 0) where
+  -- where no cell is free, they are not taken
+  pub no_room : NoneFree is_used b count → false ≡ takes max_piece count (piece_in b count) slot number bytes
+  no_room full =
+      let in_range = range_facts slot number (length bytes) range in
+      let held = held_used b count sound in
+      let all = count_all (λ i. is_used (b i)) count full in
+      let one = cost_one (length bytes) in_range.2 in_range.3 in
+      takes_not_full max_piece count (piece_in b count) slot number bytes (omega arith)
 
--- where one is free, they do
-pub some_room : (b : Cells) (count j n : ℕ) → Sound b count → IsFree b count j → 0 < n → n ≤ max_piece → cost max_piece n ≤ free_units max_piece count (piece_in b count)
-some_room b count j n sound free some short =
-    let held = held_used b count sound in
-    let less = count_lt (λ i. is_used (b i)) count j free.within free.unused in
-    let one = cost_one n some short in
-    omega arith
+  -- where one is free, they are
+  pub some_room : (j : ℕ) → IsFree is_used b count j → Taken max_piece count (piece_in b count) slot number bytes
+  some_room j free =
+      let in_range = range_facts slot number (length bytes) range in
+      let held = held_used b count sound in
+      let less = count_lt (λ i. is_used (b i)) count j free.within free.unused in
+      let one = cost_one (length bytes) in_range.2 in_range.3 in
+      record {
+        slot_fits = in_range.0;
+        number_fits = in_range.1;
+        some_byte = in_range.2;
+        length_fits = in_range.3;
+        place_empty = empty;
+        units_suffice = omega arith;
+      }
 
-module _ (b d : Cells) (count j slot number : ℕ) (bytes : List ℕ) (free : IsFree b count j) (absent : NoneSits b count slot number)
-    (filled : Filled slot number bytes (d j)) (others : (i : ℕ) → (i ≡ j → ⊥) → d i ≡ b i) (sound : Sound b count)
-    (slot_fits : slot < max_slots) (number_fits : number < max_packets) (some : 0 < length bytes) (short : length bytes ≤ max_piece) where
+module _ (b d : Units) (count j slot number : ℕ) (bytes : List ℕ) (sound : Sound b count) (free : IsFree is_used b count j)
+    (taken : Taken max_piece count (piece_in b count) slot number bytes) (filled : Filled slot number bytes (d j))
+    (others : (i : ℕ) → (i ≡ j → ⊥) → d i ≡ b i) where
+  absent : NoneSits b count slot number
+  absent = none_sits b count sound slot number taken.place_empty
+
   at_new : (s n : ℕ) → sits (d j) s n ≡ same_place slot number s n
   at_new s n = rw (filled.used, filled.slot_is, filled.number_is)
 
@@ -72,10 +92,10 @@ module _ (b d : Cells) (count j slot number : ℕ) (bytes : List ℕ) (free : Is
 
   noted_new : Noted (d j)
   noted_new = record {
-    slot_fits = rw filled.slot_is slot_fits;
-    number_fits = rw filled.number_is number_fits;
-    some_byte = omega (arith, filled.length_is);
-    length_fits = omega (arith, filled.length_is);
+    slot_fits = rw filled.slot_is taken.slot_fits;
+    number_fits = rw filled.number_is taken.number_fits;
+    some_byte = omega (arith, filled.length_is, taken.some_byte);
+    length_fits = omega (arith, filled.length_is, taken.length_fits);
   }
 
   pub put_sound : Sound d count
@@ -95,9 +115,36 @@ module _ (b d : Cells) (count j slot number : ℕ) (bytes : List ℕ) (free : Is
           let none : count_of (λ i. sits (b i) s n) count ≡ 0 =
           count_none (λ i. sits (b i) s n) count (λ i l. ap (λ x. sits (b i) x n) (sym es) ∙ (ap (λ x. sits (b i) slot x) (sym en) ∙ absent i l)) in
           count_bump (λ i. sits (b i) s n) (λ i. sits (d i) s n) count j free.within (was_off s n) (at_new s n ∙ t) (at_other s n)
-          ∙ (ap (λ k. 1 + k) none ∙ (sym (cost_one (length bytes) some short) ∙ ap (λ x. cost max_piece (length x)) (sym (piece_new s n t))))
+          ∙ (ap (λ k. 1 + k) none ∙ (sym (cost_one (length bytes) taken.some_byte taken.length_fits) ∙ ap (λ x. cost max_piece (length x)) (sym (piece_new s n t))))
       | inr f ↦
           count_same (λ i. sits (b i) s n) (λ i. sits (d i) s n) count (λ i _. same_sits s n f i)
           ∙ (sound.counts s n ∙ ap (λ x. cost max_piece (length x)) (sym (piece_kept s n f)))
     ];
   }
+
+-- a memory with one more piece
+module _ (m ys : List ℕ) (count j slot number : ℕ) (bytes : List ℕ) (fits : count * cell_length ≤ length m) (sound : Sound (cell_at m) count)
+    (free : IsFree is_used (cell_at m) count j) (taken : Taken max_piece count (piece_in (cell_at m) count) slot number bytes) (filled : Filled slot number bytes ys) where
+  abbrev after : List ℕ
+  after = put_mid (j * cell_length) (j * cell_length + cell_length - j * cell_length) m ys
+
+  within : j * cell_length + cell_length ≤ length m
+  within = omega (arith, free.within)
+
+  here : Filled slot number bytes (cell_at after j)
+  here = subst (Filled slot number bytes) (sym (unit_here cell_length m ys j within filled.long)) filled
+
+  others : (i : ℕ) → (i ≡ j → ⊥) → cell_at after i ≡ cell_at m i
+  others = (one_unit cell_length m ys j within filled.long).others
+
+  pub fill_puts : Puts true (piece_in (cell_at m) count) slot number bytes (piece_in (cell_at after) count)
+  fill_puts = put_puts (cell_at m) (cell_at after) count j slot number bytes sound free taken here others
+
+  pub fill_sound : Sound (cell_at after) count
+  fill_sound = put_sound (cell_at m) (cell_at after) count j slot number bytes sound free taken here others
+
+  pub fill_size : length after ≡ length m
+  fill_size = long_written cell_length m ys j within filled.long
+
+  pub fill_rest : drop (count * cell_length) after ≡ drop (count * cell_length) m
+  fill_rest = written_rest cell_length m ys j within filled.long count free.within

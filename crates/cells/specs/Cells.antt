@@ -1,11 +1,12 @@
 -- Cells: what one notes, and the pieces in the cells of a memory.
-use Rattle.std.specs.Prelude.{◌≡◌, ℕ, ◌*◌, ◌<◌, ◌≤◌, Bool, true, false, ◌&&◌, List, [], ◌∷◌, length, take, drop, ◌==◌, slice_index}
+use Rattle.std.specs.Prelude.{◌≡◌, ℕ, ◌<◌, ◌≤◌, Bool, true, false, ◌&&◌, List, [], ◌∷◌, length, take, drop, ◌==◌, slice_index}
 use Rattle.wire.specs.declared.order.ByteOrder.TheVariants.{Big}
 use Rattle.wire.specs.Limits.{max_packets, max_piece, max_slots}
 use Rattle.wire.specs.Numbers.{number_of}
 use Rattle.shelf.specs.Sums.{count_of}
 use Rattle.shelf.specs.Units.{cost, same_place}
 use Rattle.shelf.specs.Stores.{pick}
+use Rattle.shelf.specs.Memories.{Units, unit_at}
 use Rattle.cells.specs.Limits.{notes_length, cell_length}
 
 -- byte 0 is 1 where the cell x is used; then come slot, number, a byte of no meaning, and the length in two bytes
@@ -55,19 +56,16 @@ pub record Freed (x : List ℕ) : Type 0 where
   pub long : length x ≡ cell_length
   pub unused : is_used x ≡ false
 
--- cells, by their index, and those of a memory
-abbrev pub Cells : Type 0
-Cells = ℕ → List ℕ
-
-unfoldable pub cell_at : List ℕ → Cells
-cell_at m i = take cell_length (drop (i * cell_length) m)
+-- the cells of a memory, by their index
+abbrev pub cell_at : List ℕ → Units
+cell_at = unit_at cell_length
 
 -- the piece that the first cells hold for a place
-abbrev pub piece_in : Cells → ℕ → ℕ → ℕ → List ℕ
+abbrev pub piece_in : Units → ℕ → ℕ → ℕ → List ℕ
 piece_in cells count s n = pick (λ i. sits (cells i) s n) (λ i. content_of (cells i)) count
 
 -- what holds of the first cells at all times
-pub record Sound (cells : Cells) (count : ℕ) : Type 0 where
+pub record Sound (cells : Units) (count : ℕ) : Type 0 where
   pub long : (i : ℕ) → i < count → length (cells i) ≡ cell_length
   pub noted : (i : ℕ) → i < count → is_used (cells i) ≡ true → Noted (cells i)
   -- as many cells are used for a place as its piece costs

@@ -8,8 +8,9 @@ use Rattle.shelf.proofs.Counts.{count_le}
 use Rattle.shelf.proofs.Helds.{held_counts}
 use Rattle.shelf.proofs.Picks.{pick_none, pick_cases}
 use Rattle.wire.specs.Limits.{max_packets, max_piece, max_slots}
+use Rattle.shelf.specs.Memories.{Units}
 use Rattle.cells.specs.Limits.{cell_length}
-use Rattle.cells.specs.Cells.{is_used, slot_in, number_in, length_in, content_of, sits, Cells, piece_in, Sound}
+use Rattle.cells.specs.Cells.{is_used, slot_in, number_in, length_in, content_of, sits, piece_in, Sound}
 use Rattle.cells.specs.Steps.{NoneSits}
 
 -- a piece costs one cell
@@ -24,10 +25,10 @@ length_content x l s = length-take-le (length_in x) (drop 8 x) (let d = length-d
 pub sits_notes : (x : List ℕ) (s n : ℕ) → sits x s n ≡ true → (is_used x ≡ true) × (slot_in x ≡ s) × (number_in x ≡ n)
 sits_notes x s n h = (grind (arith, nat_tests), grind (arith, nat_tests), grind (arith, nat_tests))
 
-pub none_piece : (cells : Cells) (count s n : ℕ) → NoneSits cells count s n → piece_in cells count s n ≡ []
+pub none_piece : (cells : Units) (count s n : ℕ) → NoneSits cells count s n → piece_in cells count s n ≡ []
 none_piece cells count s n h = pick_none (λ i. sits (cells i) s n) (λ i. content_of (cells i)) count h
 
-module _ (cells : Cells) (count : ℕ) (sound : Sound cells count) where
+module _ (cells : Units) (count : ℕ) (sound : Sound cells count) where
   -- the cells used are the units that the pieces cost
   pub held_used : units_held max_piece (piece_in cells count) ≡ count_of (λ i. is_used (cells i)) count
   held_used =

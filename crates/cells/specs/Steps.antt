@@ -1,44 +1,20 @@
 -- What is found among cells, and how they are written.
-use Rattle.std.specs.Prelude.{◌≡◌, ℕ, ◌+◌, ◌*◌, ◌/◌, ◌<◌, ◌≤◌, min, Bool, true, false, List, [], length, drop, ◌≢◌, slice_index}
+use Rattle.std.specs.Prelude.{◌≡◌, ℕ, ◌*◌, ◌/◌, ◌<◌, min, Bool, true, false, List, [], length, drop}
 use Rattle.wire.specs.Limits.{max_piece}
 use Rattle.shelf.specs.Units.{takes, Puts}
+use Rattle.shelf.specs.Memories.{Units}
 use Rattle.cells.specs.Limits.{cell_length, max_cells}
-use Rattle.cells.specs.Cells.{is_used, in_slot, sits, Freed, Cells, cell_at, piece_in, Sound}
+use Rattle.cells.specs.Cells.{sits, cell_at, piece_in}
 
 -- none of the first cells is used for the place
-abbrev pub NoneSits : Cells → ℕ → ℕ → ℕ → Type 0
+abbrev pub NoneSits : Units → ℕ → ℕ → ℕ → Type 0
 NoneSits cells count slot number = (i : ℕ) → i < count → sits (cells i) slot number ≡ false
 
 -- cell i is the last one that is used for the place
-pub record LastSits (cells : Cells) (count slot number i : ℕ) : Type 0 where
+pub record LastSits (cells : Units) (count slot number i : ℕ) : Type 0 where
   pub within : i < count
   pub here : sits (cells i) slot number ≡ true
   pub none_after : (k : ℕ) → i < k → k < count → sits (cells k) slot number ≡ false
-
-abbrev pub NoneFree : Cells → ℕ → Type 0
-NoneFree cells count = (i : ℕ) → i < count → is_used (cells i) ≡ true
-
-pub record IsFree (cells : Cells) (count i : ℕ) : Type 0 where
-  pub within : i < count
-  pub unused : is_used (cells i) ≡ false
-
--- the memory w is m but for cell j
-pub record OneCell (m : List ℕ) (j : ℕ) (w : List ℕ) : Type 0 where
-  pub long : length w ≡ length m
-  pub others : (i : ℕ) → (i ≢ j) → cell_at w i ≡ cell_at m i
-  pub past : (k : ℕ) → j * cell_length + cell_length ≤ k → slice_index w k ≡ slice_index m k
-
--- of the first k cells those of the slot are freed: b before, d now
-pub record Cleared (b : Cells) (slot k : ℕ) (d : Cells) : Type 0 where
-  pub freed : (i : ℕ) → i < k → in_slot (b i) slot ≡ true → Freed (d i)
-  pub others : (i : ℕ) → i < k → in_slot (b i) slot ≡ false → d i ≡ b i
-  pub later : (i : ℕ) → k ≤ i → d i ≡ b i
-
--- the memory w is m but for its first cells, which stay sound
-pub record Stores (m : List ℕ) (count : ℕ) (w : List ℕ) : Type 0 where
-  pub long : length w ≡ length m
-  pub rest_stays : drop (count * cell_length) w ≡ drop (count * cell_length) m
-  pub sound : Sound (cell_at w) count
 
 -- how many cells a shelf takes of a memory
 abbrev pub cells_taken : List ℕ → ℕ

@@ -2,13 +2,18 @@
 ghost use Rattle.std.specs.Prelude.{◌≡◌, ◌<◌, ◌≤◌, length};
 ghost use Rattle.wire.specs.Limits.{max_packets, max_piece, max_slots};
 ghost use Rattle.cells.specs.Limits.{cell_length};
-ghost use Rattle.cells.specs.Cells.{is_used, in_slot, sits, length_in, content_of, Filled, Freed};
+ghost use Rattle.cells.specs.Cells.{is_used, in_slot, slot_in, number_in, sits, length_in, content_of, Filled, Freed};
+ghost use Rattle.cells.specs.Limits.{some_byte};
 
 use shelf::Place;
+use shelf::units::Unit;
+use wire::limits::MAX_PIECE;
 use wire::order::ByteOrder;
 
-/// The length of the notes.
-pub(crate) const NOTES_LENGTH: usize = 8;
+const NOTES_LENGTH: usize = 8;
+
+/// The length of a cell.
+pub const CELL_LENGTH: usize = NOTES_LENGTH + MAX_PIECE;
 
 // Where the notes stand, and what the first of them says.
 const STATE_AT: usize = 0;
@@ -23,34 +28,51 @@ const FREE: u8 = 0;
 
 const USED: u8 = 1;
 
-pub(crate) fn is_used(cell: &[u8]) -> bool
-    requires { length cell.now ≡ cell_length }
-    ensures { result ≡ is_used cell.now }
-{
-    cell[STATE_AT] == USED
-}
+/// The cell, as a kind of unit.
+pub(crate) struct Cell;
 
-// Whether the cell is used for this slot.
-pub(crate) fn is_in_slot(cell: &[u8], slot: usize) -> bool
-    requires { length cell.now ≡ cell_length }
-    ensures { result ≡ in_slot cell.now slot }
-{
-    cell[STATE_AT] == USED && cell[SLOT_AT] as usize == slot
+impl Unit<CELL_LENGTH> for Cell {
+    ghost used = { is_used };
+
+    ghost in_slot = { in_slot };
+
+    ghost Freed = { Freed };
+
+    fn is_used(cell: &[u8; CELL_LENGTH]) -> bool {
+        cell[STATE_AT] == USED
+    }
+
+    fn is_in_slot(cell: &[u8; CELL_LENGTH], slot: usize) -> bool {
+        cell[STATE_AT] == USED && cell[SLOT_AT] as usize == slot
+    }
+
+    fn free(cell: &mut [u8; CELL_LENGTH]) {
+        cell[STATE_AT] = FREE;
+    }
+
+    ghost some_byte = { some_byte };
 }
 
 // Whether the cell is used for this place.
-pub(crate) fn is_at(cell: &[u8], place: Place) -> bool
-    requires { length cell.now ≡ cell_length }
+pub(crate) fn is_at(cell: &[u8; CELL_LENGTH], place: Place) -> bool
     ensures { result ≡ sits cell.now place.slot place.number }
 {
-    cell[STATE_AT] == USED
-        && (cell[SLOT_AT] as usize == place.slot && cell[NUMBER_AT] as usize == place.number)
+    Cell::is_used(cell) && cell_place(cell) == place
+}
+
+fn cell_place(cell: &[u8; CELL_LENGTH]) -> Place
+    ensures slot { result.slot ≡ slot_in cell.now }
+    ensures number { result.number ≡ number_in cell.now }
+{
+    Place {
+        slot: cell[SLOT_AT] as usize,
+        number: cell[NUMBER_AT] as usize,
+    }
 }
 
 // The piece in the cell.
-pub(crate) fn content(cell: &[u8]) -> &[u8]
-    requires long { length cell.now ≡ cell_length }
-    requires noted { length_in cell.now ≤ max_piece }
+pub(crate) fn content(cell: &[u8; CELL_LENGTH]) -> &[u8]
+    requires { length_in cell.now ≤ max_piece }
     ensures { result.now ≡ content_of cell.now }
 {
     let length = ByteOrder::Big.decode_u16([cell[LENGTH_AT], cell[LENGTH_AT + 1]]) as usize;
@@ -71,11 +93,4 @@ pub(crate) fn fill(cell: &mut [u8], place: Place, bytes: &[u8])
     cell[LENGTH_AT] = high;
     cell[LENGTH_AT + 1] = low;
     cell[NOTES_LENGTH..NOTES_LENGTH + bytes.len()].copy_from_slice(bytes);
-}
-
-pub(crate) fn free(cell: &mut [u8])
-    requires { length cell.old ≡ cell_length }
-    ensures { Freed cell.new }
-{
-    cell[STATE_AT] = FREE;
 }

@@ -1,20 +1,22 @@
 // The cell shelf: every piece in a cell of its own, on memory that is lent.
 #![tactic(auto)]
 
-ghost use Rattle.std.specs.Prelude.{◌≡◌, ℕ, ◌*◌, ◌≤◌, length, drop};
+ghost use Rattle.std.specs.Prelude.{◌≡◌, ℕ, ◌*◌, ◌<◌, ◌≤◌, length, drop, MatchOption};
 ghost use Rattle.wire.specs.Limits.{max_piece};
+ghost use Rattle.shelf.specs.Memories.{nth_unit, NoneHit, LastHit};
 ghost use Rattle.cells.specs.Limits.{cell_length, max_cells};
-ghost use Rattle.cells.specs.Cells.{cell_at, piece_in, Sound};
+ghost use Rattle.cells.specs.Cells.{sits, cell_at, piece_in, Sound};
 ghost use Rattle.cells.specs.Steps.{Made, GivenBack};
 ghost use Rattle.cells.specs.Props.{sound_of};
 ghost use Rattle.cells.specs.Sounds.{sound_tidy};
 
-pub use memory::CELL_LENGTH;
+pub use cell::CELL_LENGTH;
+use cell::Cell;
+use shelf::units::{count_used, find_free, free_all, free_slot};
 use shelf::{Place, Shelf};
 use wire::limits::MAX_PIECE;
 
 mod cell;
-mod memory;
 
 /// The most cells that a shelf takes.
 pub const MAX_CELLS: usize = 512;
@@ -36,15 +38,36 @@ impl<'a> CellShelf<'a> {
         ensures loan { result.memory.ghost_name ≡ memory.entry.ghost_name }
     {
         let count = (memory.len() / CELL_LENGTH).min(MAX_CELLS);
-        memory::clear_all(memory, count);
+        free_all::<Cell, CELL_LENGTH>(&mut memory[..count * CELL_LENGTH]);
         CellShelf { memory, count }
     }
 
+    fn cells(&self) -> &[[u8; CELL_LENGTH]]
+        ensures size { length result.now ≡ self.now.count }
+        ensures each { (i : ℕ) → i < self.now.count → nth_unit result.now i ≡ cell_at self.now.memory.now i }
+    {
+        self.memory[..self.count * CELL_LENGTH].as_chunks().0
+    }
+
+    // The piece at this place, empty where there is none.
     fn piece(&self, place: Place) -> &[u8]
         ensures { result.now ≡ piece_in (cell_at self.now.memory.now) self.now.count place.slot place.number }
     {
-        memory::piece_at(self.memory, self.count, place)
+        let cells = self.cells();
+        match find(cells, place) {
+            Some(i) => cell::content(&cells[i]),
+            None => &[],
+        }
     }
+}
+
+// The last cell that is used for this place.
+fn find(cells: &[[u8; CELL_LENGTH]], place: Place) -> Option<usize>
+    ensures { MatchOption result
+        (NoneHit (λ x. sits x place.slot place.number) (nth_unit cells.now) (length cells.now))
+        (λ i. LastHit (λ x. sits x place.slot place.number) (nth_unit cells.now) (length cells.now) i) }
+{
+    cells.iter().rposition(|cell| cell::is_at(cell, place))
 }
 
 impl<'a> Shelf for CellShelf<'a> {
@@ -65,7 +88,15 @@ impl<'a> Shelf for CellShelf<'a> {
     }
 
     fn put(&mut self, place: Place, bytes: &[u8]) -> bool {
-        memory::put(self.memory, self.count, place, bytes)
+        if !place.in_range(bytes.len()) || !self.piece(place).is_empty() {
+            return false;
+        }
+        let Some(index) = find_free::<Cell, CELL_LENGTH>(self.cells()) else {
+            return false;
+        };
+        let at = index * CELL_LENGTH;
+        cell::fill(&mut self.memory[at..at + CELL_LENGTH], place, bytes);
+        true
     }
 
     fn holds(&self, place: Place, bytes: &[u8]) -> bool {
@@ -77,7 +108,7 @@ impl<'a> Shelf for CellShelf<'a> {
     }
 
     fn free(&self) -> usize {
-        self.count - memory::count_used(self.memory, self.count)
+        self.count - count_used::<Cell, CELL_LENGTH>(self.cells())
     }
 
     fn copy_out(&self, place: Place, buffer: &mut [u8]) -> usize {
@@ -90,7 +121,7 @@ impl<'a> Shelf for CellShelf<'a> {
     }
 
     fn clear(&mut self, slot: usize) {
-        memory::clear(self.memory, self.count, slot);
+        free_slot::<Cell, CELL_LENGTH>(&mut self.memory[..self.count * CELL_LENGTH], slot);
     }
 
     ghost tidy = { λ x. sound_tidy (cell_at x.memory.now) x.count (sound_of (cell_at x.memory.now) x.count x.sound) };

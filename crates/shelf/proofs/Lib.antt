@@ -4,3 +4,6 @@ pub mod Helds
 pub mod Takings
 pub mod Copies
 pub mod Picks
+pub mod Places
+pub mod Clearings
+pub mod Listed

@@ -8,6 +8,8 @@ ghost use Rattle.shelf.specs.Units.{range_test, free_units, takes, Puts, Clears,
 
 use wire::limits::{MAX_PACKETS, MAX_PIECE, MAX_SLOTS};
 
+pub mod units;
+
 /// Where a piece stands: in a slot, by the number of its packet.
 #[derive(Clone, Copy, Debug, PartialEq, Eq)]
 pub struct Place {
