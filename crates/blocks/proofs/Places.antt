@@ -1,59 +1,30 @@
--- The blocks of a memory, and a write to one of them.
-use Rattle.std.proofs.Common.{◌≡◌, ℕ, ◌+◌, ◌-◌, ◌*◌, ◌<◌, ◌≤◌, List, length, get_or, take, drop, sym, ap, ◌∙◌, inl, inr, arith, get_or-drop, rules}
+-- The blocks of a memory, as units.
+use Rattle.std.proofs.Common.{◌≡◌, ℕ, ◌+◌, ◌-◌, ◌*◌, ◌/◌, ◌<◌, ◌≤◌, List, ◌++◌, length, get_or, take, drop, sym, refl, ◌∙◌, subst, rules}
 use borrow.Rule.Slice.PartMut.{put_mid}
-use Rattle.std.proofs.lemmas.List.{ext_get_or, length-drop, drop-take, take-take, places}
+use Rattle.std.proofs.lemmas.List.{places}
 use Rattle.std.proofs.lemmas.Slice.{overwrites}
-use Rattle.std.proofs.lemmas.Bool.{cases_lt}
+use Rattle.shelf.specs.Memories.{Units, unit_at, OneUnit, Cleared}
+use Rattle.shelf.proofs.Places.{front_unit}
+use Rattle.shelf.proofs.Clearings.{freed_front, cleared_front}
 use Rattle.block.specs.Dumps.{block_at}
-use Rattle.block.proofs.Places.{block_octet, block_long, block_same}
-use Rattle.blocks.specs.Steps.{OneBlock}
+use Rattle.blocks.specs.Limits.{some_byte}
+use Rattle.blocks.specs.Parts.{in_slot}
+use Rattle.blocks.specs.Steps.{Freed}
 
--- what a memory holds after a write to one of its blocks
-module _ (m ys : List ℕ) (j : ℕ) (fits : j * 512 + 512 ≤ length m) (long : length ys ≡ 512) where
-  abbrev written : List ℕ
-  written = put_mid (j * 512) (j * 512 + 512 - j * 512) m ys
+pub block_unit : (m : List ℕ) (i : ℕ) → unit_at 512 m i ≡ block_at m i
+unfolding block_at unit_at
+block_unit m i = refl
 
-  long_written : length written ≡ length m
-  long_written = search (rules, overwrites)
-
-  inside : (k : ℕ) → k < 512 → get_or written (j * 512 + k) 0 ≡ get_or ys k 0
-  inside = search (rules, places)
-
-  below : (k : ℕ) → k < j * 512 → get_or written k 0 ≡ get_or m k 0
-  below = search (rules, places)
-
-  above : (k : ℕ) → j * 512 + 512 ≤ k → get_or written k 0 ≡ get_or m k 0
-  above = search (rules, places)
-
-  pub block_here : block_at written j ≡ ys
-  block_here =
-      let size : length (block_at written j) ≡ 512 = block_long written j (omega (arith, long_written)) in
-      ext_get_or 0 (block_at written j) ys (size ∙ sym long)
-      (λ k l. let b : k < 512 = omega (arith, size) in block_octet written j k b ∙ inside k b)
-
-  pub one_block : OneBlock m j written
-  one_block = record {
-    long = long_written;
-    others = λ i ne. block_same m written i long_written (λ k l. elim (cases_lt i j) [
-      | inl low ↦ below (i * 512 + k) (omega arith)
-      | inr high ↦ let far : j < i = omega (arith, ne) in above (i * 512 + k) (omega arith)
-    ]);
-    past = above;
-  }
-
--- bytes that are the same from a on
-pub same_after : (m w : List ℕ) (a : ℕ) → length w ≡ length m → ((k : ℕ) → a ≤ k → get_or w k 0 ≡ get_or m k 0) → drop a w ≡ drop a m
-same_after m w a e h =
-    ext_get_or 0 (drop a w) (drop a m) (length-drop a w ∙ (ap (λ n. n - a) e ∙ sym (length-drop a m)))
-    (λ i l. get_or-drop a w i 0 ∙ (h (a + i) (omega arith) ∙ sym (get_or-drop a m i 0)))
+pub blocks_are : (m : List ℕ) → unit_at 512 m ≡ block_at m
+blocks_are m k i = block_unit m i k
 
 -- the blocks of the front of a memory
 pub front_block : (m : List ℕ) (count i : ℕ) → i < count → block_at (take (count * 512) m) i ≡ block_at m i
-unfolding block_at
-front_block m count i l =
-    let r = count * 512 - i * 512 in
-    let e : count * 512 ≡ i * 512 + r = omega arith in
-    ap (λ n. take 512 (drop (i * 512) (take n m))) e ∙ (ap (take 512) (drop-take (i * 512) r m) ∙ take-take 512 r (drop (i * 512) m) (omega arith))
+front_block m count i l = sym (block_unit (take (count * 512) m) i) ∙ (front_unit 512 count m i l ∙ block_unit m i)
+
+-- all blocks but the one that was written
+pub other_blocks : (m : List ℕ) (j : ℕ) (w : List ℕ) → OneUnit 512 m j w → (i : ℕ) → (i ≡ j → ⊥) → block_at w i ≡ block_at m i
+other_blocks m j w one i ne = sym (block_unit w i) ∙ (one.others i ne ∙ block_unit m i)
 
 -- what a list holds after a write to its part from a on
 module _ (w part : List ℕ) (a : ℕ) (within : a + length part ≤ length w) where
@@ -71,3 +42,18 @@ module _ (w part : List ℕ) (a : ℕ) (within : a + length part ≤ length w) w
 
   pub part_above : (i : ℕ) → a + length part ≤ i → get_or part_written i 0 ≡ get_or w i 0
   part_above = search (rules, places)
+
+-- a memory whose first blocks were freed, or those of a slot
+module _ (count : ℕ) (m ys : List ℕ) (fits : count * 512 ≤ length m) (size : length ys ≡ length (take (count * 512) m)) where
+  abbrev after : List ℕ
+  after = ys ++ drop (count * 512) m
+
+  pub freed_blocks : ((i : ℕ) → i < length (take (count * 512) m) / 512 → Freed (unit_at 512 ys i)) → (i : ℕ) → i < count → Freed (block_at after i)
+  freed_blocks h i l = sym (block_unit after i) ∙ freed_front 512 count some_byte m ys fits size Freed h i l
+
+  pub cleared_blocks : (slot : ℕ) → Cleared in_slot Freed (unit_at 512 (take (count * 512) m)) slot (length (take (count * 512) m) / 512) (unit_at 512 ys)
+      → Cleared in_slot Freed (block_at m) slot count (block_at after)
+  cleared_blocks slot cleared =
+      subst (λ (b : Units). Cleared in_slot Freed b slot count (block_at after)) (blocks_are m)
+      (subst (λ (d : Units). Cleared in_slot Freed (unit_at 512 m) slot count d) (blocks_are after)
+      (cleared_front 512 count some_byte m ys fits size in_slot Freed slot cleared))

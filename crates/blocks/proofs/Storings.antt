@@ -11,8 +11,9 @@ use Rattle.shelf.proofs.Picks.{pick_same, pick_last}
 use Rattle.block.specs.Blocks.{Part, InRange, Lawful, used}
 use Rattle.block.specs.Fields.{slot_in, number_in, whole_in}
 use Rattle.block.specs.Dumps.{is_used}
-use Rattle.blocks.specs.Parts.{part_of, part_from, content_of, sits, sits_part, Blocks, part_in, piece_in, Sound}
-use Rattle.blocks.specs.Steps.{NoneSits, NoneFree, Filled, StoredParts}
+use Rattle.shelf.specs.Memories.{Units, NoneFree}
+use Rattle.blocks.specs.Parts.{part_of, part_from, content_of, sits, sits_part, part_in, piece_in, Sound}
+use Rattle.blocks.specs.Steps.{NoneSits, Filled, StoredParts}
 use Rattle.blocks.proofs.Fills.{filled_sits, filled_used, filled_part, filled_whole, filled_content}
 use Rattle.blocks.specs.Cuts.{cost_is, part_begins, length_part, part_none, parts_join}
 use Rattle.blocks.specs.Sounds.{sits_says, none_part}
@@ -35,7 +36,7 @@ unused_sits x s n h = rw h
 unused_part : (x : List ℕ) (s n k : ℕ) → is_used x ≡ false → sits_part x s n k ≡ false
 unused_part x s n k h = rw h
 
-pub store_none : (b : Blocks) (count slot number : ℕ) (bytes : List ℕ) → Sound b count → NoneSits b count slot number → StoredParts b count slot number bytes 0 b
+pub store_none : (b : Units) (count slot number : ℕ) (bytes : List ℕ) → Sound b count → NoneSits b count slot number → StoredParts b count slot number bytes 0 b
 store_none b count slot number bytes sound off = record {
   lawful = sound.lawful;
   others = λ i l f. refl;
@@ -48,14 +49,14 @@ store_none b count slot number bytes sound off = record {
 }
 
 -- where there is room for one part more, not all blocks are used
-pub some_free : (b : Blocks) (count slot number : ℕ) (bytes : List ℕ) (k : ℕ) (d : Blocks) → StoredParts b count slot number bytes k d
-    → k + count_of (λ i. is_used (b i)) count < count → NoneFree d count → ⊥
+pub some_free : (b : Units) (count slot number : ℕ) (bytes : List ℕ) (k : ℕ) (d : Units) → StoredParts b count slot number bytes k d
+    → k + count_of (λ i. is_used (b i)) count < count → NoneFree is_used d count → ⊥
 some_free b count slot number bytes k d so_far room full =
     let all = count_all (λ i. is_used (d i)) count full in
     let now_used = so_far.used_count in
     omega arith
 
-module _ (b d e : Blocks) (count slot number : ℕ) (bytes : List ℕ) (k j : ℕ) (so_far : StoredParts b count slot number bytes k d)
+module _ (b d e : Units) (count slot number : ℕ) (bytes : List ℕ) (k j : ℕ) (so_far : StoredParts b count slot number bytes k d)
     (within : j < count) (unused : is_used (d j) ≡ false) (range : InRange (part_from slot number k (length bytes) (part_of bytes k)))
     (filled : Filled (part_from slot number k (length bytes) (part_of bytes k)) (e j)) (same : (i : ℕ) → (i ≡ j → ⊥) → e i ≡ d i) where
   abbrev new : Part
@@ -150,7 +151,7 @@ place_same : (slot number s n : ℕ) → same_place slot number s n ≡ true →
 place_same slot number s n h = (grind (arith, nat_tests), grind (arith, nat_tests))
 
 -- once all parts are stored
-module _ (b d : Blocks) (count slot number : ℕ) (bytes : List ℕ) (stored : StoredParts b count slot number bytes (cost 500 (length bytes)) d)
+module _ (b d : Units) (count slot number : ℕ) (bytes : List ℕ) (stored : StoredParts b count slot number bytes (cost 500 (length bytes)) d)
     (sound : Sound b count) (short : length bytes ≤ 1448) where
   part_all : (p : ℕ) → part_in d count slot number p ≡ part_of bytes p
   part_all p = elim (cases_lt p (cost 500 (length bytes))) [

@@ -3,10 +3,12 @@ use Rattle.std.specs.Prelude.{◌≡◌, ℕ, ◌*◌, ◌<◌, Bool, true, ◌&
 use Rattle.shelf.specs.Sums.{count_of}
 use Rattle.shelf.specs.Units.{cost, same_place}
 use Rattle.shelf.specs.Stores.{pick}
+use Rattle.shelf.specs.Memories.{Units}
 use Rattle.block.specs.Limits.{data_start, data_length}
 use Rattle.block.specs.Blocks.{Part, Lawful}
 use Rattle.block.specs.Fields.{slot_in, number_in, index_in, length_in, whole_in}
 use Rattle.block.specs.Dumps.{is_used}
+use Rattle.blocks.specs.declared.fields.Part as code
 
 -- part k of the bytes: all parts but the last are full
 abbrev pub part_of : List ℕ → ℕ → List ℕ
@@ -15,6 +17,10 @@ part_of bytes k = take data_length (drop (k * data_length) bytes)
 -- these bytes as one part of the piece at this place
 abbrev pub part_from : ℕ → ℕ → ℕ → ℕ → List ℕ → Part
 part_from s n k long bytes = record { slot = s; number = n; index = k; whole = long; octets = bytes }
+
+-- a part, as the code has it
+abbrev pub shown : code.Part → Part
+shown p = part_from p.place.slot p.place.number p.index p.whole p.bytes.now
 
 module _ (x : List ℕ) where
   -- the bytes of the piece that stand in the used block x
@@ -33,20 +39,16 @@ module _ (x : List ℕ) where
   abbrev pub sits_part : ℕ → ℕ → ℕ → Bool
   sits_part slot number k = sits slot number && index_in x == k
 
--- blocks, by their index
-abbrev pub Blocks : Type 0
-Blocks = ℕ → List ℕ
-
 -- part k of the piece that the first blocks hold for a place
-unfoldable pub part_in : Blocks → ℕ → ℕ → ℕ → ℕ → List ℕ
+unfoldable pub part_in : Units → ℕ → ℕ → ℕ → ℕ → List ℕ
 part_in blocks count s n k = pick (λ i. sits_part (blocks i) s n k) (λ i. content_of (blocks i)) count
 
 -- that piece, which has at most three parts
-unfoldable pub piece_in : Blocks → ℕ → ℕ → ℕ → List ℕ
+unfoldable pub piece_in : Units → ℕ → ℕ → ℕ → List ℕ
 piece_in blocks count s n = part_in blocks count s n 0 ++ (part_in blocks count s n 1 ++ part_in blocks count s n 2)
 
 -- what holds of the first blocks at all times
-pub record Sound (blocks : Blocks) (count : ℕ) : Type 0 where
+pub record Sound (blocks : Units) (count : ℕ) : Type 0 where
   pub lawful : (i : ℕ) → i < count → ∥ Lawful (blocks i) ∥₁
   -- a used block says how long its piece is
   pub wholes : (i : ℕ) → i < count → is_used (blocks i) ≡ true

@@ -11,7 +11,8 @@ use Rattle.shelf.proofs.Picks.{pick_none, pick_cases}
 use Rattle.block.specs.Blocks.{Lawful}
 use Rattle.block.specs.Fields.{slot_in, number_in, index_in, length_in, whole_in, PartFound}
 use Rattle.block.specs.Dumps.{is_used}
-use Rattle.blocks.specs.Parts.{part_of, content_of, sits, sits_part, Blocks, part_in, piece_in, Sound}
+use Rattle.shelf.specs.Memories.{Units}
+use Rattle.blocks.specs.Parts.{part_of, content_of, sits, sits_part, part_in, piece_in, Sound}
 use Rattle.blocks.specs.Steps.{NoneSits, NonePart}
 use Rattle.blocks.specs.Props.{found_of}
 use Rattle.blocks.specs.Cuts.{cost_is, part_begins, parts_three, length_part, Exact, three_parts}
@@ -30,12 +31,12 @@ sits_says x s n h = (grind (arith, nat_tests), grind (arith, nat_tests), grind (
 pub part_says : (x : List ℕ) (s n k : ℕ) → sits_part x s n k ≡ true → (sits x s n ≡ true) × (index_in x ≡ k)
 part_says x s n k h = (grind (arith, nat_tests), grind (arith, nat_tests))
 
-pub none_part : (blocks : Blocks) (count s n k : ℕ) → NonePart blocks count s n k → part_in blocks count s n k ≡ []
+pub none_part : (blocks : Units) (count s n k : ℕ) → NonePart blocks count s n k → part_in blocks count s n k ≡ []
 unfolding part_in
 none_part blocks count s n k h = pick_none (λ i. sits_part (blocks i) s n k) (λ i. content_of (blocks i)) count h
 
 -- a place of which there is no block holds nothing
-pub none_piece : (blocks : Blocks) (count s n : ℕ) → NoneSits blocks count s n → piece_in blocks count s n ≡ []
+pub none_piece : (blocks : Units) (count s n : ℕ) → NoneSits blocks count s n → piece_in blocks count s n ≡ []
 unfolding piece_in
 none_piece blocks count s n h = rw (none 0, none 1, none 2)
   where
@@ -58,7 +59,7 @@ sizes long a b c e (inr x) (inr y) (inl z) = (omega arith, omega arith, omega ar
 sizes long a b c e (inr x) (inr y) (inr z) = (omega arith, omega arith, omega arith)
 
 -- one place
-module _ (blocks : Blocks) (count : ℕ) (sound : Sound blocks count) (s n : ℕ) where
+module _ (blocks : Units) (count : ℕ) (sound : Sound blocks count) (s n : ℕ) where
   abbrev piece : List ℕ
   piece = piece_in blocks count s n
 
@@ -149,7 +150,7 @@ module _ (blocks : Blocks) (count : ℕ) (sound : Sound blocks count) (s n : ℕ
       let is : found ≡ part_of piece k = h ∙ sym (part_is k (parts_three (length piece) k piece_short h')) in
       (begins, is, omega (arith, ap length is, length_part piece k))
 
-module _ (blocks : Blocks) (count : ℕ) (sound : Sound blocks count) where
+module _ (blocks : Units) (count : ℕ) (sound : Sound blocks count) where
   -- the blocks used are the units that the pieces cost
   pub held_used : units_held 500 (piece_in blocks count) ≡ count_of (λ i. is_used (blocks i)) count
   held_used =

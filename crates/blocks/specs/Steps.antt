@@ -1,34 +1,22 @@
 -- What is found among blocks, and how they are written.
-use Rattle.std.specs.Prelude.{◌≡◌, ℕ, ◌+◌, ◌*◌, ◌/◌, ◌<◌, ◌≤◌, min, Bool, true, false, List, [], length, take, drop, ◌≢◌, slice_index}
+use Rattle.std.specs.Prelude.{◌≡◌, ℕ, ◌+◌, ◌*◌, ◌/◌, ◌<◌, ◌≤◌, min, Bool, true, false, List, [], length, take, drop, slice_index}
 use Rattle.shelf.specs.Sums.{count_of}
 use Rattle.block.specs.Limits.{block_length, data_length}
 use Rattle.block.specs.Blocks.{Part, Lawful, used_front, free_front, sealed}
 use Rattle.block.specs.Fields.{whole_in}
 use Rattle.block.specs.Dumps.{block_at, is_used, Passes}
 use Rattle.shelf.specs.Units.{units_held, takes, Puts}
+use Rattle.shelf.specs.Memories.{Units}
 use Rattle.blocks.specs.Limits.{max_blocks}
-use Rattle.blocks.specs.Parts.{part_of, in_slot, sits, sits_part, Blocks, part_in, piece_in, Sound}
+use Rattle.blocks.specs.Parts.{part_of, sits, sits_part, part_in, piece_in}
 
 -- none of the first blocks is used for the place
-abbrev pub NoneSits : Blocks → ℕ → ℕ → ℕ → Type 0
+abbrev pub NoneSits : Units → ℕ → ℕ → ℕ → Type 0
 NoneSits blocks count slot number = (i : ℕ) → i < count → sits (blocks i) slot number ≡ false
 
 -- none of the first blocks is used for part k of the piece at the place
-abbrev pub NonePart : Blocks → ℕ → ℕ → ℕ → ℕ → Type 0
+abbrev pub NonePart : Units → ℕ → ℕ → ℕ → ℕ → Type 0
 NonePart blocks count slot number k = (i : ℕ) → i < count → sits_part (blocks i) slot number k ≡ false
-
--- block i is the last one that is used for that part
-pub record LastPart (blocks : Blocks) (count slot number k i : ℕ) : Type 0 where
-  pub within : i < count
-  pub here : sits_part (blocks i) slot number k ≡ true
-  pub none_after : (j : ℕ) → i < j → j < count → sits_part (blocks j) slot number k ≡ false
-
-abbrev pub NoneFree : Blocks → ℕ → Type 0
-NoneFree blocks count = (i : ℕ) → i < count → is_used (blocks i) ≡ true
-
-pub record IsFree (blocks : Blocks) (count i : ℕ) : Type 0 where
-  pub within : i < count
-  pub unused : is_used (blocks i) ≡ false
 
 -- the block x holds this part of a piece
 abbrev pub Filled : Part → List ℕ → Type 0
@@ -38,20 +26,8 @@ Filled p x = x ≡ sealed (used_front p)
 abbrev pub Freed : List ℕ → Type 0
 Freed x = x ≡ sealed free_front
 
--- the memory w is m but for block j
-pub record OneBlock (m : List ℕ) (j : ℕ) (w : List ℕ) : Type 0 where
-  pub long : length w ≡ length m
-  pub others : (i : ℕ) → (i ≢ j) → block_at w i ≡ block_at m i
-  pub past : (k : ℕ) → j * block_length + block_length ≤ k → slice_index w k ≡ slice_index m k
-
--- of the first k blocks those of the slot are freed: b before, d now
-pub record Cleared (b : Blocks) (slot k : ℕ) (d : Blocks) : Type 0 where
-  pub freed : (i : ℕ) → i < k → in_slot (b i) slot ≡ true → Freed (d i)
-  pub others : (i : ℕ) → i < k → in_slot (b i) slot ≡ false → d i ≡ b i
-  pub later : (i : ℕ) → k ≤ i → d i ≡ b i
-
 -- the first k parts of the bytes are stored at the place, each in a block that was free: b before, d now
-pub record StoredParts (b : Blocks) (count slot number : ℕ) (bytes : List ℕ) (k : ℕ) (d : Blocks) : Type 0 where
+pub record StoredParts (b : Units) (count slot number : ℕ) (bytes : List ℕ) (k : ℕ) (d : Units) : Type 0 where
   pub lawful : (i : ℕ) → i < count → ∥ Lawful (d i) ∥₁
   pub others : (i : ℕ) → i < count → sits (d i) slot number ≡ false → d i ≡ b i
   pub were_free : (i : ℕ) → i < count → sits (d i) slot number ≡ true → is_used (b i) ≡ false
@@ -66,12 +42,6 @@ pub record CopiedParts (p u : List ℕ) (k : ℕ) (w : List ℕ) : Type 0 where
   pub long : length w ≡ length u
   pub front : (i : ℕ) → i < k * data_length → i < length p → slice_index w i ≡ slice_index p i
   pub behind : (i : ℕ) → min (k * data_length) (length p) ≤ i → slice_index w i ≡ slice_index u i
-
--- the memory w is m but for its first blocks, which stay sound
-pub record Stores (m : List ℕ) (count : ℕ) (w : List ℕ) : Type 0 where
-  pub long : length w ≡ length m
-  pub rest_stays : drop (count * block_length) w ≡ drop (count * block_length) m
-  pub sound : Sound (block_at w) count
 
 -- how many blocks a shelf takes of a memory
 abbrev pub blocks_taken : List ℕ → ℕ

@@ -2,66 +2,101 @@
 ghost use Rattle.std.specs.Prelude.{◌≡◌, ◌≤◌, length, take};
 ghost use Rattle.block.specs.Limits.{block_length, data_length, check_start};
 ghost use Rattle.block.specs.Blocks.{InRange, sealed};
-ghost use Rattle.block.specs.Fields.{length_in, whole_in};
+ghost use Rattle.block.specs.Fields.{slot_in, number_in, length_in, whole_in};
 ghost use Rattle.block.specs.Dumps.{is_used};
-ghost use Rattle.blocks.specs.Parts.{part_from, content_of, in_slot, sits_part};
+ghost use Rattle.blocks.specs.Limits.{some_byte};
+ghost use Rattle.blocks.specs.Parts.{shown, content_of, in_slot, sits_part};
 ghost use Rattle.blocks.specs.Steps.{Filled, Freed};
 
 use block::{
-    CHECK_AT, DATA_AT, INDEX_AT, LENGTH_AT, NUMBER_AT, SLOT_AT, STATE_AT, USED, WHOLE_AT, crc,
+    BLOCK_LENGTH, CHECK_AT, DATA_AT, INDEX_AT, LENGTH_AT, NUMBER_AT, SLOT_AT, STATE_AT, USED,
+    WHOLE_AT, crc,
 };
 use shelf::Place;
+use shelf::units::Unit;
 use wire::order::ByteOrder;
 
-pub(crate) fn is_used(block: &[u8]) -> bool
-    requires { length block.now ≡ block_length }
-    ensures { result ≡ is_used block.now }
-{
-    block[STATE_AT] == USED
+/// The block, as a kind of unit.
+pub(crate) struct Block;
+
+impl Unit<BLOCK_LENGTH> for Block {
+    ghost used = { is_used };
+
+    ghost in_slot = { in_slot };
+
+    ghost Freed = { Freed };
+
+    fn is_used(block: &[u8; BLOCK_LENGTH]) -> bool {
+        block[STATE_AT] == USED
+    }
+
+    fn is_in_slot(block: &[u8; BLOCK_LENGTH], slot: usize) -> bool {
+        block[STATE_AT] == USED && block[SLOT_AT] as usize == slot
+    }
+
+    // Writes a block that holds nothing, and seals it.
+    fn free(block: &mut [u8; BLOCK_LENGTH]) {
+        block[0..CHECK_AT].fill(0);
+        seal(block);
+    }
+
+    ghost some_byte = { some_byte };
 }
 
-// Whether the block is used for this slot.
-pub(crate) fn is_in_slot(block: &[u8], slot: usize) -> bool
-    requires { length block.now ≡ block_length }
-    ensures { result ≡ in_slot block.now slot }
-{
-    block[STATE_AT] == USED && block[SLOT_AT] as usize == slot
+/// One part of a piece: where the piece stands, which part it is, the length of the whole piece, and the bytes of the part.
+#[derive(Clone, Copy)]
+pub(crate) struct Part<'a> {
+    pub(crate) place: Place,
+    pub(crate) index: usize,
+    pub(crate) whole: usize,
+    pub(crate) bytes: &'a [u8],
 }
 
 // Whether the block is used for this part of the piece at this place.
-pub(crate) fn is_part(block: &[u8], place: Place, index: usize) -> bool
-    requires { length block.now ≡ block_length }
+pub(crate) fn is_part(block: &[u8; BLOCK_LENGTH], place: Place, index: usize) -> bool
     ensures { result ≡ sits_part block.now place.slot place.number index }
 {
-    (block[STATE_AT] == USED
-        && (block[SLOT_AT] as usize == place.slot && block[NUMBER_AT] as usize == place.number))
-        && block[INDEX_AT] as usize == index
+    Block::is_used(block) && block_place(block) == place && block[INDEX_AT] as usize == index
+}
+
+fn block_place(block: &[u8; BLOCK_LENGTH]) -> Place
+    ensures slot { result.slot ≡ slot_in block.now }
+    ensures number { result.number ≡ number_in block.now }
+{
+    Place {
+        slot: block[SLOT_AT] as usize,
+        number: block[NUMBER_AT] as usize,
+    }
 }
 
 // The length of the whole piece.
-pub(crate) fn whole(block: &[u8]) -> usize
-    requires { length block.now ≡ block_length }
+pub(crate) fn whole(block: &[u8; BLOCK_LENGTH]) -> usize
     ensures { result ≡ whole_in block.now }
 {
     ByteOrder::Big.decode_u16([block[WHOLE_AT], block[WHOLE_AT + 1]]) as usize
 }
 
 // The bytes of the piece that stand in the block.
-pub(crate) fn content(block: &[u8]) -> &[u8]
-    requires long { length block.now ≡ block_length }
-    requires short { length_in block.now ≤ data_length }
+pub(crate) fn content(block: &[u8; BLOCK_LENGTH]) -> &[u8]
+    requires { length_in block.now ≤ data_length }
     ensures { result.now ≡ content_of block.now }
 {
     let length = ByteOrder::Big.decode_u16([block[LENGTH_AT], block[LENGTH_AT + 1]]) as usize;
     &block[DATA_AT..DATA_AT + length]
 }
 
-// Writes the part of this index of a piece of `whole` bytes, and seals the block.
-pub(crate) fn fill(block: &mut [u8], place: Place, index: usize, whole: usize, bytes: &[u8])
+// Writes the part, and seals the block.
+pub(crate) fn fill(block: &mut [u8], part: Part<'_>)
     requires long { length block.old ≡ block_length }
-    requires range { InRange (part_from place.slot place.number index whole bytes.now) }
-    ensures { Filled (part_from place.slot place.number index whole bytes.now) block.new }
+    requires range { InRange (shown part) }
+    ensures { Filled (shown part.entry) block.new }
 {
+    let Part {
+        place,
+        index,
+        whole,
+        bytes,
+    } = part;
     let [high, low] = ByteOrder::Big.encode_u16(bytes.len() as u16);
     let [whole_high, whole_low] = ByteOrder::Big.encode_u16(whole as u16);
     block[STATE_AT] = USED;
@@ -74,15 +109,6 @@ pub(crate) fn fill(block: &mut [u8], place: Place, index: usize, whole: usize, b
     block[WHOLE_AT + 1] = whole_low;
     block[DATA_AT..DATA_AT + bytes.len()].copy_from_slice(bytes);
     block[DATA_AT + bytes.len()..CHECK_AT].fill(0);
-    seal(block);
-}
-
-// Writes a block that holds nothing, and seals it.
-pub(crate) fn free(block: &mut [u8])
-    requires { length block.old ≡ block_length }
-    ensures { Freed block.new }
-{
-    block[0..CHECK_AT].fill(0);
     seal(block);
 }
 

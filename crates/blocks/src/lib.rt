@@ -1,16 +1,20 @@
 // The block shelf: pieces in parts, each part in a sealed block, on memory that is lent.
 #![tactic(auto)]
 
-ghost use Rattle.std.specs.Prelude.{◌≡◌, ◌*◌, ◌≤◌, length, take, drop, Ok};
+ghost use Rattle.std.specs.Prelude.{◌≡◌, ◌↔◌, IsTrue, ℕ, ◌*◌, ◌<◌, ◌≤◌, length, take, drop, Ok};
 ghost use Rattle.shelf.specs.Units.{units_held};
+ghost use Rattle.shelf.specs.Memories.{nth_unit};
 ghost use Rattle.block.specs.Limits.{block_length, data_length};
 ghost use Rattle.block.specs.Dumps.{block_at, Passes};
-ghost use Rattle.blocks.specs.Parts.{piece_in, Sound};
+ghost use Rattle.blocks.specs.Parts.{part_in, piece_in, Sound};
 ghost use Rattle.blocks.specs.Steps.{Made, GivenBack};
 ghost use Rattle.blocks.specs.Props.{sound_of};
 ghost use Rattle.blocks.specs.Sounds.{sound_tidy};
 
 use block::{BLOCK_LENGTH, DATA_LENGTH, dump};
+use fields::Block;
+use memory::{part_count, part_of};
+use shelf::units::{count_used, free_all, free_slot};
 use shelf::{Place, Shelf};
 use wire::refusal::Refusal;
 
@@ -38,7 +42,7 @@ impl<'a> BlockShelf<'a> {
         ensures loan { result.memory.ghost_name ≡ memory.entry.ghost_name }
     {
         let count = (memory.len() / BLOCK_LENGTH).min(MAX_BLOCKS);
-        memory::clear_all(memory, count);
+        free_all::<Block, BLOCK_LENGTH>(&mut memory[..count * BLOCK_LENGTH]);
         BlockShelf { memory, count }
     }
 
@@ -56,6 +60,39 @@ impl<'a> BlockShelf<'a> {
         ensures { result ≡ Ok (units_held data_length (piece_in (block_at self.now.memory.now) self.now.count)) }
     {
         dump::inspect(self.blocks())
+    }
+
+    fn units(&self) -> &[[u8; BLOCK_LENGTH]]
+        ensures size { length result.now ≡ self.now.count }
+        ensures each { (i : ℕ) → i < self.now.count → nth_unit result.now i ≡ block_at self.now.memory.now i }
+    {
+        memory::units(self.memory, self.count)
+    }
+
+    // One part of the piece at this place, empty where there is none.
+    fn part(&self, place: Place, index: usize) -> &[u8]
+        ensures { result.now ≡ part_in (block_at self.now.memory.now) self.now.count place.slot place.number index }
+    {
+        let blocks = self.units();
+        match memory::find_part(blocks, place, index) {
+            Some(i) => fields::content(&blocks[i]),
+            None => &[],
+        }
+    }
+
+    // Whether the piece at this place is just these bytes.
+    fn is_piece(&self, place: Place, bytes: &[u8]) -> bool
+        ensures { IsTrue result ↔ (piece_in (block_at self.now.memory.now) self.now.count place.slot place.number ≡ bytes.now) }
+    {
+        if self.length(place) != bytes.len() {
+            return false;
+        }
+        for index in 0..part_count(bytes.len()) {
+            if self.part(place, index) != part_of(bytes, index) {
+                return false;
+            }
+        }
+        true
     }
 }
 
@@ -77,27 +114,46 @@ impl<'a> Shelf for BlockShelf<'a> {
     }
 
     fn put(&mut self, place: Place, bytes: &[u8]) -> bool {
-        memory::put(self.memory, self.count, place, bytes)
+        if !place.in_range(bytes.len())
+            || self.length(place) > 0
+            || part_count(bytes.len()) > self.free()
+        {
+            return false;
+        }
+        memory::store(self.memory, self.count, place, bytes);
+        true
     }
 
     fn holds(&self, place: Place, bytes: &[u8]) -> bool {
-        bytes.len() > 0 && memory::is_piece(self.memory, self.count, place, bytes)
+        bytes.len() > 0 && self.is_piece(place, bytes)
     }
 
     fn length(&self, place: Place) -> usize {
-        memory::piece_length(self.memory, self.count, place)
+        let blocks = self.units();
+        match memory::find_part(blocks, place, 0) {
+            Some(i) => fields::whole(&blocks[i]),
+            None => 0,
+        }
     }
 
     fn free(&self) -> usize {
-        self.count - memory::count_used(self.memory, self.count)
+        self.count - count_used::<Block, BLOCK_LENGTH>(self.units())
     }
 
     fn copy_out(&self, place: Place, buffer: &mut [u8]) -> usize {
-        memory::copy_out(self.memory, self.count, place, buffer)
+        let length = self.length(place);
+        if length > buffer.len() {
+            return 0;
+        }
+        for index in 0..part_count(length) {
+            let part = self.part(place, index);
+            buffer[index * DATA_LENGTH..index * DATA_LENGTH + part.len()].copy_from_slice(part);
+        }
+        length
     }
 
     fn clear(&mut self, slot: usize) {
-        memory::clear(self.memory, self.count, slot);
+        free_slot::<Block, BLOCK_LENGTH>(&mut self.memory[..self.count * BLOCK_LENGTH], slot);
     }
 
     ghost tidy = { λ x. sound_tidy (block_at x.memory.now) x.count (sound_of (block_at x.memory.now) x.count x.sound) };

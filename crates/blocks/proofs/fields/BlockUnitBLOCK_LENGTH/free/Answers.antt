@@ -2,7 +2,7 @@ use borrow.Rule.Slice.PartMut.{post_of}
 use Rattle.std.proofs.Common.{◌≡◌, ℕ, length, take, replicate, ap, ◌∙◌, arith}
 use Rattle.std.proofs.lemmas.List.{length-replicate, length-take-le, take_at}
 use Rattle.block.specs.Blocks.{free_front, sealed}
-use Rattle.blocks.proofs.fields.free.Goals as goal
+use Rattle.blocks.proofs.fields.BlockUnitBLOCK_LENGTH.free.Goals as goal
 
 pub returns : goal.returns
 unfolding free_front
