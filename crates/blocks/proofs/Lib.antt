@@ -4,3 +4,4 @@ pub mod Clearings
 pub mod Storings
 pub mod Copies
 pub mod Inspections
+pub mod Chunks

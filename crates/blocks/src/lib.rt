@@ -13,7 +13,7 @@ ghost use Rattle.blocks.specs.Sounds.{sound_tidy};
 
 use block::{BLOCK_LENGTH, DATA_LENGTH, dump};
 use fields::Block;
-use memory::{part_count, part_of};
+use memory::part_count;
 use shelf::units::{count_used, free_all, free_slot};
 use shelf::{Place, Shelf};
 use wire::refusal::Refusal;
@@ -84,15 +84,11 @@ impl<'a> BlockShelf<'a> {
     fn is_piece(&self, place: Place, bytes: &[u8]) -> bool
         ensures { IsTrue result ↔ (piece_in (block_at self.now.memory.now) self.now.count place.slot place.number ≡ bytes.now) }
     {
-        if self.length(place) != bytes.len() {
-            return false;
-        }
-        for index in 0..part_count(bytes.len()) {
-            if self.part(place, index) != part_of(bytes, index) {
-                return false;
-            }
-        }
-        true
+        self.length(place) == bytes.len()
+            && bytes
+                .chunks(DATA_LENGTH)
+                .enumerate()
+                .all(|(index, part)| self.part(place, index) == part)
     }
 }
 
@@ -145,6 +141,7 @@ impl<'a> Shelf for BlockShelf<'a> {
         if length > buffer.len() {
             return 0;
         }
+        // Parts are written in place, so each is found by its index.
         for index in 0..part_count(length) {
             let part = self.part(place, index);
             buffer[index * DATA_LENGTH..index * DATA_LENGTH + part.len()].copy_from_slice(part);

@@ -23,8 +23,8 @@ pub(crate) fn part_count(length: usize) -> usize
     length.div_ceil(DATA_LENGTH)
 }
 
-/// One part of the bytes.
-pub(crate) fn part_of(bytes: &[u8], index: usize) -> &[u8]
+// One part of the bytes.
+fn part_of(bytes: &[u8], index: usize) -> &[u8]
     requires begins { index * data_length < length bytes.now }
     requires short { length bytes.now ≤ max_piece }
     ensures { result.now ≡ part_of bytes.now index }

@@ -9,7 +9,7 @@ use Rattle.std.proofs.lemmas.Bool.{cases_lt}
 use Rattle.shelf.specs.Memories.{nth_unit, unit_at, OneUnit}
 
 -- the units of a memory as arrays
-chunk_is : (n c i : ℕ) (m : List ℕ) → i < c → nth_unit (first_chunks n c m) i ≡ take n (drop (i * n) m)
+pub chunk_is : (n c i : ℕ) (m : List ℕ) → i < c → nth_unit (first_chunks n c m) i ≡ take n (drop (i * n) m)
 chunk_is n zero i m l = absurd (omega arith)
 chunk_is n (suc c) zero m l = let e : 0 * n ≡ 0 = omega arith in rw e
 chunk_is n (suc c) (suc i) m l = chunk_is n c i (drop n m) (omega arith) ∙ ap (take n) (drop-drop (i * n) n m ∙ ap (λ k. drop k m) (omega arith))

@@ -1,50 +1,26 @@
-use Rattle.std.proofs.Common.{◌≡◌, ◌<◌, length, sym, refl, ap, ◌∙◌, arith, rules}
-use Rattle.std.proofs.lemmas.Bool.{false≢true}
+use Rattle.std.proofs.Common.{◌≡◌, ℕ, ◌<◌, List, length, arith, rules}
+use borrow.Author.Tests.{tests}
+use Rattle.std.specs.Bool.{MatchBool}
+use Rattle.std.specs.List.{AllWithin, HoldsAt, enumerate_from}
+use Rattle.std.proofs.lemmas.Iterator.{cases_from_all}
+use Rattle.std.proofs.lemmas.Iterator.Consumers.{YieldsList-from_enumerate, YieldsList-at}
 use Rattle.block.specs.Dumps.{block_at}
-use Rattle.blocks.specs.Parts.{part_of, piece_in}
+use Rattle.blocks.specs.Parts.{part_in}
 use Rattle.blocks.specs.Props.{sound_of}
-use Rattle.blocks.specs.Cuts.{part_begins, parts_three, parts_end, parts_same}
-use Rattle.blocks.specs.Sounds.{part_is, piece_short}
+use Rattle.blocks.proofs.Chunks.{parts, YieldsList-from_parts, is_cut}
 use Rattle.blocks.proofs.BlockShelf.is_piece.Goals as goal
 
-pub part_of-requires : goal.part_of-requires
-part_of-requires c =
+pub returns-then-length-bytes : goal.returns-then-length-bytes
+returns-then-length-bytes c =
     let x = c.args.self.now in
     let at = block_at x.memory.now in
-    let short = piece_short at x.count (sound_of at x.count x.sound) c.args.place.slot c.args.place.number in
-    record {
-      begins = part_begins (length c.args.bytes.now) c.loop-index.index (omega (arith, c.part_count-index-end.ensures));
-      short = omega (arith, c.length.ensures);
-    }
-
-pub returns-then-ne : goal.returns-then-ne
-returns-then-ne c =
-    let x = c.args.self.now in
-    let at = block_at x.memory.now in
-    let sound = sound_of at x.count x.sound in
-    let short = piece_short at x.count sound c.args.place.slot c.args.place.number in
-    let k = c.loop-index.index in
-    let few : k < 3 = parts_three (length c.args.bytes.now) k (omega (arith, c.length.ensures)) (omega (arith, c.part_count-index-end.ensures)) in
-    let is = part_is at x.count sound c.args.place.slot c.args.place.number k few in (
-      (λ t. absurd (false≢true t)),
-      (λ e.
-          let same : c.part.result.now ≡ c.part_of.result.now = c.part.ensures ∙ (sym is ∙ (ap (λ x. part_of x k) e ∙ sym c.part_of.ensures)) in
-          search (rules, same)),
-    )
-
-pub returns : goal.returns
-returns c =
-    let x = c.args.self.now in
-    let at = block_at x.memory.now in
-    let sound = sound_of at x.count x.sound in
-    let bytes = c.args.bytes.now in
     let s = c.args.place.slot in
     let n = c.args.place.number in
-    let long : length (piece_in at x.count s n) ≡ length bytes = omega (arith, c.length.ensures) in
-    let short = piece_short at x.count sound s n in
-    let all = parts_end (length bytes) c.loop-index.index (omega (arith, c.part_count-index-end.ensures)) in (
-      (λ _. parts_same (piece_in at x.count s n) bytes long (λ k l.
-          let few : k < 3 = omega arith in
-          part_is at x.count sound s n k few ∙ c.loop-index.invariant k (omega arith))),
-      (λ _. refl),
-    )
+    let Yes : ℕ × List ℕ → Type 0 = λ p. part_in at x.count s n p.0 ≡ p.1 in
+    let No : ℕ × List ℕ → Type 0 = λ p. part_in at x.count s n p.0 ≡ p.1 → ⊥ in
+    let xs = enumerate_from 0 (parts c.args.bytes.now) in
+    let all : MatchBool c.all.result (AllWithin Yes xs 0 (length xs)) ((k : ℕ) × (k < length xs) × HoldsAt No xs k) =
+    cases_from_all _ _ _ Yes No c.all.ensures.ran
+    (YieldsList-from_enumerate (YieldsList-at c.enumerate.ensures.source (YieldsList-from_parts c.args.bytes.now c.chunks.ensures.rest c.chunks.ensures.size)) c.enumerate.ensures.count)
+    (λ x q k. search (rules, tests)) (λ x q k. search (rules, tests)) in
+    is_cut at x.count (sound_of at x.count x.sound) s n c.args.bytes.now (omega (arith, c.length.ensures)) c.all.result all
