@@ -1,9 +1,11 @@
 -- The parts of bytes, as an iterator gives them.
 use Rattle.std.proofs.Common.{◌≡◌, ℕ, zero, suc, ◌+◌, ◌<◌, min, Bool, true, false, List, [], ◌∷◌, ◌++◌, length, get_or, take, drop, sym, refl, ap, ◌∙◌, subst, inl, inr, arith}
 use Rattle.std.proofs.lemmas.Bool.{cases_lt, false≢true}
-use Rattle.std.proofs.lemmas.List.{length-append, take_at, drop_at, take_all, drop_all}
+use Rattle.std.proofs.lemmas.List.{get_or_default, length-append, take_at, drop_at, take_all, drop_all}
 use Rattle.std.proofs.lemmas.Iterator.{YieldsList}
 use Rattle.std.proofs.lemmas.Iterator.Splits.{YieldsList-from_shown_while}
+use Rattle.std.proofs.lemmas.Iterator.Consumers.{YieldsList-from_enumerate, YieldsList-at}
+use Rattle.std.specs.Iterator.Adapters.{enumerate_source, enumerate_count, enumerate_steps}
 use Rattle.std.specs.Simd.{first_chunks}
 use Rattle.std.specs.Slice.Iter.{chunks_steps, chunks_rest, chunks_size}
 use Rattle.std.specs.Bool.{MatchBool, IsTrue}
@@ -49,7 +51,7 @@ one_more xs x rest e size some =
     let c = cut xs x rest e size in
     ap (λ k. first_chunks 500 k xs) more ∙ rw (c.0, c.1)
 
-pub YieldsList-from_parts : {s : _} (bytes : List ℕ) → chunks_rest s ≡ bytes → chunks_size s ≡ 500 → YieldsList (chunks_steps {A = ℕ}) (λ x. x.now) s (parts bytes)
+YieldsList-from_parts : {s : _} (bytes : List ℕ) → chunks_rest s ≡ bytes → chunks_size s ≡ 500 → YieldsList (chunks_steps {A = ℕ}) (λ x. x.now) s (parts bytes)
 YieldsList-from_parts {s} bytes e size =
     subst (λ (bs : List ℕ). YieldsList (chunks_steps {A = ℕ}) (λ x. x.now) s (parts bs)) e
     (YieldsList-from_shown_while (chunks_steps {A = ℕ}) (λ x. x.now) (λ t. parts (chunks_rest t)) (λ t. chunks_size t ≡ 500)
@@ -65,8 +67,24 @@ item bytes k l =
     let z : 0 + k ≡ k = omega arith in
     (ap (λ p. p.0) e ∙ z, ap (λ p. p.1) e ∙ nth_part bytes k l)
 
-items : (bytes : List ℕ) → length (enumerate_from 0 (parts bytes)) ≡ cost 500 (length bytes)
+pub items : (bytes : List ℕ) → length (enumerate_from 0 (parts bytes)) ≡ cost 500 (length bytes)
 items bytes = length-enumerate_from 0 (parts bytes) ∙ length_parts bytes
+
+-- they come with their indices
+pub parts_road : {s a b : _} (bytes : List ℕ) → s ≡ a → enumerate_source a ≡ b → enumerate_count a ≡ 0 → chunks_rest b ≡ bytes → chunks_size b ≡ 500
+    → YieldsList {B = ℕ × List ℕ} (enumerate_steps (chunks_steps {A = ℕ})) (λ p. (p.0, p.1.now)) s (enumerate_from 0 (parts bytes))
+parts_road bytes is source start rest size =
+    YieldsList-at is (YieldsList-from_enumerate (YieldsList-at source (YieldsList-from_parts bytes rest size)) start)
+
+-- one turn of a loop over the parts and their indices
+pub part_turn : (bytes : List ℕ) (k : ℕ) (p : ℕ × List ℕ) → (k < length (enumerate_from 0 (parts bytes))) × (p ≡ get_or (enumerate_from 0 (parts bytes)) k p)
+    → (k < cost 500 (length bytes)) × (p ≡ (k, part_of bytes k))
+part_turn bytes k p h =
+    let within : k < cost 500 (length bytes) = omega (arith, h.0, items bytes) in
+    let l : k < length (parts bytes) = omega (arith, length_parts bytes) in
+    let z : 0 + k ≡ k = omega arith in
+    let part : get_or (parts bytes) k p.1 ≡ part_of bytes k = get_or_default (parts bytes) k p.1 [] l ∙ nth_part bytes k within in
+    (within, h.1 ∙ (get_or-enumerate_from 0 (parts bytes) k p l ∙ (ap (λ j. (j, get_or (parts bytes) k p.1)) z ∙ ap (λ (x : List ℕ). (k, x)) part)))
 
 -- a piece is just these bytes where it has as many and each part is theirs
 pub is_cut : (blocks : Units) (count : ℕ) → Sound blocks count → (s n : ℕ) (bytes : List ℕ) → length (piece_in blocks count s n) ≡ length bytes → (r : Bool)

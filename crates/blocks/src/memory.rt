@@ -23,16 +23,6 @@ pub(crate) fn part_count(length: usize) -> usize
     length.div_ceil(DATA_LENGTH)
 }
 
-// One part of the bytes.
-fn part_of(bytes: &[u8], index: usize) -> &[u8]
-    requires begins { index * data_length < length bytes.now }
-    requires short { length bytes.now ≤ max_piece }
-    ensures { result.now ≡ part_of bytes.now index }
-{
-    let start = index * DATA_LENGTH;
-    &bytes[start..(start + DATA_LENGTH).min(bytes.len())]
-}
-
 /// The first blocks of a memory.
 pub(crate) fn units(memory: &[u8], count: usize) -> &[[u8; BLOCK_LENGTH]]
     requires { count * block_length ≤ length memory.now }
@@ -76,7 +66,7 @@ pub(crate) fn store(memory: &mut [u8], count: usize, place: Place, bytes: &[u8])
     ensures long { length memory.new ≡ length memory.old }
     ensures rest { drop (count * block_length) memory.new ≡ drop (count * block_length) memory.old }
 {
-    for index in 0..part_count(bytes.len()) {
+    for (index, part) in bytes.chunks(DATA_LENGTH).enumerate() {
         let Some(at) = find_free::<Block, BLOCK_LENGTH>(units(memory, count)) else {
             return;
         };
@@ -84,7 +74,7 @@ pub(crate) fn store(memory: &mut [u8], count: usize, place: Place, bytes: &[u8])
             place,
             index,
             whole: bytes.len(),
-            bytes: part_of(bytes, index),
+            bytes: part,
         };
         fill_at(memory, at, part);
     }
