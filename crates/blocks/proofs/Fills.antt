@@ -8,7 +8,7 @@ use Rattle.std.proofs.lemmas.Bool.Decides.{nat_tests}
 use Rattle.wire.specs.declared.order.ByteOrder.TheVariants.{Big}
 use Rattle.wire.specs.Numbers.{digits}
 use Rattle.block.specs.Check.{check_of}
-use Rattle.block.specs.Blocks.{Part, InRange, free_front, used_front, sealed, free, used}
+use Rattle.block.specs.Blocks.{Part, InRange, free_front, used_front, sealed, used}
 use Rattle.block.specs.Fields.{index_in, length_in, whole_in}
 use Rattle.block.specs.Dumps.{is_used}
 use Rattle.block.proofs.Layouts.{found_lawful}
@@ -58,9 +58,6 @@ module _ (m bytes part zeros : List ℕ) (slot number index whole high low whole
 -- what a filled and a freed block are
 pub filled_long : (p : Part) (x : List ℕ) → InRange p → Filled p x → length x ≡ 512
 filled_long p x range e = (found_lawful x (used p range e)).long
-
-pub freed_long : (x : List ℕ) → Freed x → length x ≡ 512
-freed_long x e = (found_lawful x (free e)).long
 
 pub freed_unused : (x : List ℕ) → Freed x → is_used x ≡ false
 unfolding free_front

@@ -1,7 +1,6 @@
 -- How bytes are cut into parts.
-use Rattle.std.proofs.Common.{◌≡◌, ℕ, ◌+◌, ◌-◌, ◌*◌, ◌/◌, ◌%◌, ◌<◌, ◌≤◌, min, List, [], ◌++◌, length, get_or, take, drop, sym, refl, ap, ◌∙◌, inl, inr, arith, get_or-drop, get_or-take}
+use Rattle.std.proofs.Common.{◌≡◌, ℕ, ◌+◌, ◌-◌, ◌*◌, ◌/◌, ◌%◌, ◌<◌, ◌≤◌, min, List, [], ◌++◌, length, get_or, take, drop, sym, refl, ap, ◌∙◌, arith, get_or-drop, get_or-take}
 use Rattle.std.proofs.lemmas.List.{ext_get_or, length-append, length-take, length-drop, take-append-drop, drop-drop, take_all, drop_all, get_or_append_left, get_or-append_right}
-use Rattle.std.proofs.lemmas.Bool.{cases_lt}
 use Rattle.shelf.specs.Units.{cost}
 use Rattle.blocks.specs.Parts.{part_of}
 
@@ -35,15 +34,6 @@ parts_join bytes l =
     let two : take 500 (drop 500 bytes) ++ drop 1000 bytes ≡ drop 500 bytes =
     ap (λ z. take 500 (drop 500 bytes) ++ z) (sym (drop-drop 500 500 bytes)) ∙ take-append-drop 500 (drop 500 bytes) in
     ap (λ z. take 500 bytes ++ (take 500 (drop 500 bytes) ++ z)) last ∙ (ap (λ z. take 500 bytes ++ z) two ∙ take-append-drop 500 bytes)
-
--- a part as the code takes it from the bytes
-pub slice_part : (bytes : List ℕ) (k to : ℕ) → k * 500 ≤ length bytes → to ≡ min (k * 500 + 500) (length bytes) → take (to - k * 500) (drop (k * 500) bytes) ≡ part_of bytes k
-slice_part bytes k to b e =
-    let d = length-drop (k * 500) bytes in
-    elim (cases_lt (length bytes) (k * 500 + 500)) [
-      | inl last ↦ take_all (to - k * 500) (drop (k * 500) bytes) (omega arith) ∙ sym (take_all 500 (drop (k * 500) bytes) (omega arith))
-      | inr full ↦ let n : to - k * 500 ≡ 500 = omega arith in ap (λ z. take z (drop (k * 500) bytes)) n
-    ]
 
 -- bytes of one length with the same parts are the same
 pub parts_same : (xs ys : List ℕ) → length xs ≡ length ys → ((k : ℕ) → k * 500 < length ys → part_of xs k ≡ part_of ys k) → xs ≡ ys

@@ -5,7 +5,7 @@ use Rattle.std.proofs.lemmas.Bool.Decides.{nat_tests}
 use Rattle.shelf.specs.Sums.{count_of}
 use Rattle.shelf.specs.Units.{cost, range_test, takes, same_place, Puts}
 use Rattle.shelf.proofs.Counts.{count_none, count_same, count_bump, count_all, count_lt}
-use Rattle.shelf.proofs.Takings.{range_facts, Taken, takes_not_full}
+use Rattle.shelf.proofs.Takings.{range_facts, Taken, takes_not_full, takes_so}
 use Rattle.shelf.proofs.Picks.{pick_last, pick_same}
 use Rattle.shelf.proofs.Places.{unit_here, one_unit, long_written, written_rest}
 use borrow.Rule.Slice.PartMut.{put_mid}
@@ -124,12 +124,16 @@ module _ (b d : Units) (count j slot number : ℕ) (bytes : List ℕ) (sound : S
 
 -- a memory with one more piece
 module _ (m ys : List ℕ) (count j slot number : ℕ) (bytes : List ℕ) (fits : count * cell_length ≤ length m) (sound : Sound (cell_at m) count)
-    (free : IsFree is_used (cell_at m) count j) (taken : Taken max_piece count (piece_in (cell_at m) count) slot number bytes) (filled : Filled slot number bytes ys) where
+    (range : range_test slot number (length bytes) ≡ true) (empty : length (piece_in (cell_at m) count slot number) ≡ 0)
+    (free : IsFree is_used (cell_at m) count j) (filled : Filled slot number bytes ys) where
   abbrev after : List ℕ
   after = put_mid (j * cell_length) (j * cell_length + cell_length - j * cell_length) m ys
 
   within : j * cell_length + cell_length ≤ length m
   within = omega (arith, free.within)
+
+  taken : Taken max_piece count (piece_in (cell_at m) count) slot number bytes
+  taken = some_room (cell_at m) count sound slot number bytes range empty j free
 
   here : Filled slot number bytes (cell_at after j)
   here = subst (Filled slot number bytes) (sym (unit_here cell_length m ys j within filled.long)) filled
@@ -137,14 +141,17 @@ module _ (m ys : List ℕ) (count j slot number : ℕ) (bytes : List ℕ) (fits 
   others : (i : ℕ) → (i ≡ j → ⊥) → cell_at after i ≡ cell_at m i
   others = (one_unit cell_length m ys j within filled.long).others
 
-  pub fill_puts : Puts true (piece_in (cell_at m) count) slot number bytes (piece_in (cell_at after) count)
-  fill_puts = put_puts (cell_at m) (cell_at after) count j slot number bytes sound free taken here others
+  pub fill_sound : (count * cell_length ≤ length after) × Sound (cell_at after) count
+  fill_sound = (
+    omega (arith, long_written cell_length m ys j within filled.long),
+    put_sound (cell_at m) (cell_at after) count j slot number bytes sound free taken here others,
+  )
 
-  pub fill_sound : Sound (cell_at after) count
-  fill_sound = put_sound (cell_at m) (cell_at after) count j slot number bytes sound free taken here others
-
-  pub fill_size : length after ≡ length m
-  fill_size = long_written cell_length m ys j within filled.long
-
-  pub fill_rest : drop (count * cell_length) after ≡ drop (count * cell_length) m
-  fill_rest = written_rest cell_length m ys j within filled.long count free.within
+  pub fill_puts : (true ≡ takes max_piece count (piece_in (cell_at m) count) slot number bytes)
+      × Puts true (piece_in (cell_at m) count) slot number bytes (piece_in (cell_at after) count)
+      × (drop (count * cell_length) after ≡ drop (count * cell_length) m)
+  fill_puts = (
+    takes_so max_piece count (piece_in (cell_at m) count) slot number bytes taken,
+    put_puts (cell_at m) (cell_at after) count j slot number bytes sound free taken here others,
+    written_rest cell_length m ys j within filled.long count free.within,
+  )

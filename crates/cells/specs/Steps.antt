@@ -1,5 +1,5 @@
 -- What is found among cells, and how they are written.
-use Rattle.std.specs.Prelude.{◌≡◌, ℕ, ◌*◌, ◌/◌, ◌<◌, min, Bool, true, false, List, [], length, drop}
+use Rattle.std.specs.Prelude.{◌≡◌, ℕ, ◌*◌, ◌/◌, ◌<◌, min, Bool, false, List, [], length, drop}
 use Rattle.wire.specs.Limits.{max_piece}
 use Rattle.shelf.specs.Units.{takes, Puts}
 use Rattle.shelf.specs.Memories.{Units}
@@ -9,12 +9,6 @@ use Rattle.cells.specs.Cells.{sits, cell_at, piece_in}
 -- none of the first cells is used for the place
 abbrev pub NoneSits : Units → ℕ → ℕ → ℕ → Type 0
 NoneSits cells count slot number = (i : ℕ) → i < count → sits (cells i) slot number ≡ false
-
--- cell i is the last one that is used for the place
-pub record LastSits (cells : Units) (count slot number i : ℕ) : Type 0 where
-  pub within : i < count
-  pub here : sits (cells i) slot number ≡ true
-  pub none_after : (k : ℕ) → i < k → k < count → sits (cells k) slot number ≡ false
 
 -- how many cells a shelf takes of a memory
 abbrev pub cells_taken : List ℕ → ℕ

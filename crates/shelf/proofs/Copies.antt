@@ -1,10 +1,7 @@
 -- What is copied out of a place.
-use Rattle.std.proofs.Common.{◌≡◌, ℕ, ◌<◌, ◌≤◌, List, ◌++◌, length, drop}
-use Rattle.std.proofs.lemmas.Bool.{le-leb, lt-leb}
+use Rattle.std.proofs.Common.{◌≡◌, ℕ, ◌≤◌, List, ◌++◌, length, drop}
+use Rattle.std.proofs.lemmas.Bool.{le-leb}
 use Rattle.shelf.specs.Pieces.{copied_length, copied_over}
-
-pub copies_long : (held buffer : List ℕ) → length buffer < length held → (0 ≡ copied_length held buffer) × (buffer ≡ copied_over held buffer)
-copies_long held buffer l = let t = lt-leb (length held) (length buffer) l in (rw t, rw t)
 
 pub copies_fit : (held buffer : List ℕ) → length held ≤ length buffer
     → (length held ≡ copied_length held buffer) × (held ++ drop (length held) buffer ≡ copied_over held buffer)

@@ -29,11 +29,6 @@ same_after m w a e h =
     (λ i l. get_or-drop a w i 0 ∙ (h (a + i) (omega arith) ∙ sym (get_or-drop a m i 0)))
 
 module _ (n : ℕ) where
-  -- a unit as the code takes it from the memory
-  pub slice_unit : (m : List ℕ) (i : ℕ) → take (i * n + n - i * n) (drop (i * n) m) ≡ unit_at n m i
-  unfolding unit_at
-  slice_unit m i = let e : i * n + n - i * n ≡ n = omega arith in ap (λ k. take k (drop (i * n) m)) e
-
   pub unit_octet : (m : List ℕ) (i k : ℕ) → k < n → get_or (unit_at n m i) k 0 ≡ get_or m (i * n + k) 0
   unfolding unit_at
   unit_octet m i k l = get_or-take n (drop (i * n) m) k 0 l ∙ get_or-drop (i * n) m k 0

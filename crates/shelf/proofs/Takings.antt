@@ -1,5 +1,5 @@
 -- When a piece is taken.
-use Rattle.std.proofs.Common.{◌≡◌, ℕ, ◌<◌, ◌≤◌, true, false, leb, List, length, arith}
+use Rattle.std.proofs.Common.{◌≡◌, ℕ, ◌<◌, ◌≤◌, true, false, List, length, arith}
 use Rattle.std.proofs.lemmas.Bool.Decides.{nat_tests}
 use Rattle.wire.specs.Limits.{max_packets, max_piece, max_slots}
 use Rattle.shelf.specs.Pieces.{Pieces}
@@ -27,14 +27,6 @@ module _ (unit capacity : ℕ) (p : Pieces) (slot number : ℕ) (bytes : List �
     place_empty = grind (arith, nat_tests);
     units_suffice = grind (arith, nat_tests);
   }
-
-  -- where all else is as it should be, the free units decide
-  pub takes_room : slot < max_slots → number < max_packets → 0 < length bytes → length bytes ≤ max_piece → length (p slot number) ≡ 0
-      → (a b : ℕ) → a ≡ cost unit (length bytes) → b ≡ free_units unit capacity p → leb a b ≡ takes unit capacity p slot number bytes
-  takes_room h i j k l a b e f = rw (e, f) (grind (arith, nat_tests))
-
-  pub takes_not_held : 0 < length (p slot number) → false ≡ takes unit capacity p slot number bytes
-  takes_not_held h = grind (arith, nat_tests)
 
   pub takes_not_full : free_units unit capacity p < cost unit (length bytes) → false ≡ takes unit capacity p slot number bytes
   takes_not_full h = grind (arith, nat_tests)
