@@ -31,7 +31,7 @@ impl Unit<BLOCK_LENGTH> for Block {
     }
 
     fn is_in_slot(block: &[u8; BLOCK_LENGTH], slot: usize) -> bool {
-        block[STATE_AT] == USED && block[SLOT_AT] as usize == slot
+        block[STATE_AT] == USED && usize::from(block[SLOT_AT]) == slot
     }
 
     // Writes a block that holds nothing, and seals it.
@@ -43,7 +43,8 @@ impl Unit<BLOCK_LENGTH> for Block {
     ghost some_byte = { some_byte };
 }
 
-/// One part of a piece: where the piece stands, which part it is, the length of the whole piece, and the bytes of the part.
+/// One part of a piece: where the piece stands, which part it is, the length of the whole piece,
+/// and the bytes of the part.
 #[derive(Clone, Copy)]
 pub(crate) struct Part<'a> {
     pub(crate) place: Place,
@@ -56,7 +57,7 @@ pub(crate) struct Part<'a> {
 pub(crate) fn is_part(block: &[u8; BLOCK_LENGTH], place: Place, index: usize) -> bool
     ensures { result ≡ sits_part block.now place.slot place.number index }
 {
-    Block::is_used(block) && block_place(block) == place && block[INDEX_AT] as usize == index
+    Block::is_used(block) && block_place(block) == place && usize::from(block[INDEX_AT]) == index
 }
 
 fn block_place(block: &[u8; BLOCK_LENGTH]) -> Place
@@ -64,8 +65,8 @@ fn block_place(block: &[u8; BLOCK_LENGTH]) -> Place
     ensures number { result.number ≡ number_in block.now }
 {
     Place {
-        slot: block[SLOT_AT] as usize,
-        number: block[NUMBER_AT] as usize,
+        slot: usize::from(block[SLOT_AT]),
+        number: usize::from(block[NUMBER_AT]),
     }
 }
 
@@ -73,7 +74,7 @@ fn block_place(block: &[u8; BLOCK_LENGTH]) -> Place
 pub(crate) fn whole(block: &[u8; BLOCK_LENGTH]) -> usize
     ensures { result ≡ whole_in block.now }
 {
-    ByteOrder::Big.decode_u16([block[WHOLE_AT], block[WHOLE_AT + 1]]) as usize
+    usize::from(ByteOrder::Big.decode::<u16, 2>([block[WHOLE_AT], block[WHOLE_AT + 1]]))
 }
 
 // The bytes of the piece that stand in the block.
@@ -81,7 +82,10 @@ pub(crate) fn content(block: &[u8; BLOCK_LENGTH]) -> &[u8]
     requires { length_in block.now ≤ data_length }
     ensures { result.now ≡ content_of block.now }
 {
-    let length = ByteOrder::Big.decode_u16([block[LENGTH_AT], block[LENGTH_AT + 1]]) as usize;
+    let length = usize::from(ByteOrder::Big.decode::<u16, 2>([
+        block[LENGTH_AT],
+        block[LENGTH_AT + 1],
+    ]));
     &block[DATA_AT..DATA_AT + length]
 }
 
@@ -97,8 +101,8 @@ pub(crate) fn fill(block: &mut [u8], part: Part<'_>)
         whole,
         bytes,
     } = part;
-    let [high, low] = ByteOrder::Big.encode_u16(bytes.len() as u16);
-    let [whole_high, whole_low] = ByteOrder::Big.encode_u16(whole as u16);
+    let [high, low]: [u8; 2] = ByteOrder::Big.encode(bytes.len() as u16);
+    let [whole_high, whole_low]: [u8; 2] = ByteOrder::Big.encode(whole as u16);
     block[STATE_AT] = USED;
     block[SLOT_AT] = place.slot as u8;
     block[NUMBER_AT] = place.number as u8;
@@ -117,7 +121,7 @@ fn seal(block: &mut [u8])
     requires { length block.old ≡ block_length }
     ensures { block.new ≡ sealed (take check_start block.old) }
 {
-    let [high, low] = ByteOrder::Big.encode_u16(crc::check(&block[0..CHECK_AT]));
+    let [high, low]: [u8; 2] = ByteOrder::Big.encode(crc::check(&block[0..CHECK_AT]));
     block[CHECK_AT] = high;
     block[CHECK_AT + 1] = low;
 }

@@ -35,8 +35,8 @@ pub struct BlockShelf<'a> {
 }
 
 impl<'a> BlockShelf<'a> {
-    /// An empty shelf on as many whole blocks as the memory has, and at most `MAX_BLOCKS`, all of which it frees.
-    /// What stands in the memory after them stays.
+    /// An empty shelf on as many whole blocks as the memory has, and at most `MAX_BLOCKS`, all of
+    /// which it frees. What stands in the memory after them stays.
     pub fn new(memory: &'a mut [u8]) -> BlockShelf<'a>
         ensures made { Made memory.old result.count result.memory.now }
         ensures loan { result.memory.ghost_name ≡ memory.entry.ghost_name }
@@ -50,28 +50,32 @@ impl<'a> BlockShelf<'a> {
     pub fn blocks(&self) -> &[u8]
         ensures own { result.now ≡ take (self.now.count * block_length) self.now.memory.now }
         ensures size { length result.now ≡ self.now.count * block_length }
-        ensures passes { Passes result.now (units_held data_length (piece_in (block_at self.now.memory.now) self.now.count)) }
+        ensures passes { Passes result.now
+            (units_held data_length (piece_in (block_at self.now.memory.now) self.now.count)) }
     {
         &self.memory[0..self.count * BLOCK_LENGTH]
     }
 
     /// Inspects the blocks of the shelf: all are lawful, and as many are used as the pieces cost.
     pub fn inspect(&self) -> Result<usize, Refusal>
-        ensures { result ≡ Ok (units_held data_length (piece_in (block_at self.now.memory.now) self.now.count)) }
+        ensures { result ≡ Ok
+            (units_held data_length (piece_in (block_at self.now.memory.now) self.now.count)) }
     {
         dump::inspect(self.blocks())
     }
 
     fn units(&self) -> &[[u8; BLOCK_LENGTH]]
         ensures size { length result.now ≡ self.now.count }
-        ensures each { (i : ℕ) → i < self.now.count → nth_unit result.now i ≡ block_at self.now.memory.now i }
+        ensures each { (i : ℕ) → i < self.now.count →
+            nth_unit result.now i ≡ block_at self.now.memory.now i }
     {
         memory::units(self.memory, self.count)
     }
 
     // One part of the piece at this place, empty where there is none.
     fn part(&self, place: Place, index: usize) -> &[u8]
-        ensures { result.now ≡ part_in (block_at self.now.memory.now) self.now.count place.slot place.number index }
+        ensures { result.now ≡
+            part_in (block_at self.now.memory.now) self.now.count place.slot place.number index }
     {
         let blocks = self.units();
         match memory::find_part(blocks, place, index) {
@@ -82,7 +86,9 @@ impl<'a> BlockShelf<'a> {
 
     // Whether the piece at this place is just these bytes.
     fn is_piece(&self, place: Place, bytes: &[u8]) -> bool
-        ensures { IsTrue result ↔ (piece_in (block_at self.now.memory.now) self.now.count place.slot place.number ≡ bytes.now) }
+        ensures { IsTrue result ↔
+            (piece_in (block_at self.now.memory.now) self.now.count place.slot place.number
+            ≡ bytes.now) }
     {
         self.length(place) == bytes.len()
             && bytes
@@ -153,11 +159,13 @@ impl<'a> Shelf for BlockShelf<'a> {
         free_slot::<Block, BLOCK_LENGTH>(&mut self.memory[..self.count * BLOCK_LENGTH], slot);
     }
 
-    ghost tidy = { λ x. sound_tidy (block_at x.memory.now) x.count (sound_of (block_at x.memory.now) x.count x.sound) };
+    ghost tidy = { λ x. sound_tidy (block_at x.memory.now) x.count
+        (sound_of (block_at x.memory.now) x.count x.sound) };
 }
 
-/// Whether an empty shelf on this memory takes the bytes at the place. The memory is lent to such a shelf and
-/// given back; what stands in it after the blocks is as it was.
+/// Whether an empty shelf on this memory takes the bytes at the place. The memory is lent to such a
+/// shelf and given back; what stands in it after the blocks is as it was.
+// The cell shelf's promises no inspection, for which its cells have no check.
 pub fn takes_one(memory: &mut [u8], place: Place, bytes: &[u8]) -> bool
     ensures { GivenBack memory.old place.slot place.number bytes.now result memory.new }
 {

@@ -35,8 +35,10 @@ pub(crate) fn units(memory: &[u8], count: usize) -> &[[u8; BLOCK_LENGTH]]
 /// The last block that is used for this part of the piece at this place.
 pub(crate) fn find_part(blocks: &[[u8; BLOCK_LENGTH]], place: Place, index: usize) -> Option<usize>
     ensures { MatchOption result
-        (NoneHit (λ x. sits_part x place.slot place.number index) (nth_unit blocks.now) (length blocks.now))
-        (λ i. LastHit (λ x. sits_part x place.slot place.number index) (nth_unit blocks.now) (length blocks.now) i) }
+        (NoneHit (λ x. sits_part x place.slot place.number index)
+        (nth_unit blocks.now) (length blocks.now))
+        (λ i. LastHit (λ x. sits_part x place.slot place.number index)
+        (nth_unit blocks.now) (length blocks.now) i) }
 {
     blocks
         .iter()
@@ -58,11 +60,13 @@ pub(crate) fn store(memory: &mut [u8], count: usize, place: Place, bytes: &[u8])
     requires fits { count * block_length ≤ length memory.old }
     requires sound { Sound (block_at memory.old) count }
     requires absent { NoneSits (block_at memory.old) count place.slot place.number }
-    requires room { cost data_length (length bytes.now) + count_of (λ i. is_used (block_at memory.old i)) count ≤ count }
+    requires room { cost data_length (length bytes.now)
+        + count_of (λ i. is_used (block_at memory.old i)) count ≤ count }
     requires slot { place.slot < max_slots }
     requires number { place.number < max_packets }
     requires short { length bytes.now ≤ max_piece }
-    ensures stored { StoredParts (block_at memory.old) count place.slot place.number bytes.now (cost data_length (length bytes.now)) (block_at memory.new) }
+    ensures stored { StoredParts (block_at memory.old) count place.slot place.number bytes.now
+        (cost data_length (length bytes.now)) (block_at memory.new) }
     ensures long { length memory.new ≡ length memory.old }
     ensures rest { drop (count * block_length) memory.new ≡ drop (count * block_length) memory.old }
 {

@@ -43,7 +43,7 @@ impl Unit<CELL_LENGTH> for Cell {
     }
 
     fn is_in_slot(cell: &[u8; CELL_LENGTH], slot: usize) -> bool {
-        cell[STATE_AT] == USED && cell[SLOT_AT] as usize == slot
+        cell[STATE_AT] == USED && usize::from(cell[SLOT_AT]) == slot
     }
 
     fn free(cell: &mut [u8; CELL_LENGTH]) {
@@ -65,8 +65,8 @@ fn cell_place(cell: &[u8; CELL_LENGTH]) -> Place
     ensures number { result.number ≡ number_in cell.now }
 {
     Place {
-        slot: cell[SLOT_AT] as usize,
-        number: cell[NUMBER_AT] as usize,
+        slot: usize::from(cell[SLOT_AT]),
+        number: usize::from(cell[NUMBER_AT]),
     }
 }
 
@@ -75,7 +75,10 @@ pub(crate) fn content(cell: &[u8; CELL_LENGTH]) -> &[u8]
     requires { length_in cell.now ≤ max_piece }
     ensures { result.now ≡ content_of cell.now }
 {
-    let length = ByteOrder::Big.decode_u16([cell[LENGTH_AT], cell[LENGTH_AT + 1]]) as usize;
+    let length = usize::from(ByteOrder::Big.decode::<u16, 2>([
+        cell[LENGTH_AT],
+        cell[LENGTH_AT + 1],
+    ]));
     &cell[NOTES_LENGTH..NOTES_LENGTH + length]
 }
 
@@ -86,7 +89,7 @@ pub(crate) fn fill(cell: &mut [u8], place: Place, bytes: &[u8])
     requires short { length bytes.now ≤ max_piece }
     ensures { Filled place.slot place.number bytes.now cell.new }
 {
-    let [high, low] = ByteOrder::Big.encode_u16(bytes.len() as u16);
+    let [high, low]: [u8; 2] = ByteOrder::Big.encode(bytes.len() as u16);
     cell[STATE_AT] = USED;
     cell[SLOT_AT] = place.slot as u8;
     cell[NUMBER_AT] = place.number as u8;

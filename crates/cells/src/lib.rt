@@ -44,14 +44,16 @@ impl<'a> CellShelf<'a> {
 
     fn cells(&self) -> &[[u8; CELL_LENGTH]]
         ensures size { length result.now ≡ self.now.count }
-        ensures each { (i : ℕ) → i < self.now.count → nth_unit result.now i ≡ cell_at self.now.memory.now i }
+        ensures each { (i : ℕ) → i < self.now.count →
+            nth_unit result.now i ≡ cell_at self.now.memory.now i }
     {
         self.memory[..self.count * CELL_LENGTH].as_chunks().0
     }
 
     // The piece at this place, empty where there is none.
     fn piece(&self, place: Place) -> &[u8]
-        ensures { result.now ≡ piece_in (cell_at self.now.memory.now) self.now.count place.slot place.number }
+        ensures { result.now ≡
+            piece_in (cell_at self.now.memory.now) self.now.count place.slot place.number }
     {
         let cells = self.cells();
         match find(cells, place) {
@@ -65,7 +67,8 @@ impl<'a> CellShelf<'a> {
 fn find(cells: &[[u8; CELL_LENGTH]], place: Place) -> Option<usize>
     ensures { MatchOption result
         (NoneHit (λ x. sits x place.slot place.number) (nth_unit cells.now) (length cells.now))
-        (λ i. LastHit (λ x. sits x place.slot place.number) (nth_unit cells.now) (length cells.now) i) }
+        (λ i. LastHit (λ x. sits x place.slot place.number)
+        (nth_unit cells.now) (length cells.now) i) }
 {
     cells.iter().rposition(|cell| cell::is_at(cell, place))
 }
@@ -124,11 +127,13 @@ impl<'a> Shelf for CellShelf<'a> {
         free_slot::<Cell, CELL_LENGTH>(&mut self.memory[..self.count * CELL_LENGTH], slot);
     }
 
-    ghost tidy = { λ x. sound_tidy (cell_at x.memory.now) x.count (sound_of (cell_at x.memory.now) x.count x.sound) };
+    ghost tidy = { λ x. sound_tidy (cell_at x.memory.now) x.count
+        (sound_of (cell_at x.memory.now) x.count x.sound) };
 }
 
-/// Whether an empty shelf on this memory takes the bytes at the place. The memory is lent to such a shelf and
-/// given back; what stands in it after the cells is as it was.
+/// Whether an empty shelf on this memory takes the bytes at the place. The memory is lent to such a
+/// shelf and given back; what stands in it after the cells is as it was.
+// The block shelf's also promises that a dump of its blocks passes inspection.
 pub fn takes_one(memory: &mut [u8], place: Place, bytes: &[u8]) -> bool
     ensures { GivenBack memory.old place.slot place.number bytes.now result memory.new }
 {

@@ -29,7 +29,8 @@ impl Place {
     }
 }
 
-/// A shelf of any kind. Each slot and packet number is a place, which holds nothing or a piece of bytes.
+/// A shelf of any kind. Each slot and packet number is a place, which holds nothing or a piece of
+/// bytes.
 ///
 /// A shelf has a fixed number of units, its capacity, and a piece costs as many units as it begins.
 /// Every call is answered for every argument: a place out of range holds nothing and takes nothing.
@@ -54,11 +55,13 @@ pub trait Shelf {
     fn unit_size() -> usize
         ensures { result ≡ unit };
 
-    /// Puts the bytes at a place, and answers whether it did: where the place and the length are in range,
-    /// the place is empty and the units suffice.
+    /// Puts the bytes at a place, and answers whether it did: where the place and the length are in
+    /// range, the place is empty and the units suffice.
     fn put(&mut self, place: Place, bytes: &[u8]) -> bool
-        ensures answer { result ≡ takes unit (capacity self.old) (piece self.old) place.slot place.number bytes.now }
-        ensures after { Puts result (piece self.old) place.slot place.number bytes.now (piece self.new) }
+        ensures answer { result ≡
+            takes unit (capacity self.old) (piece self.old) place.slot place.number bytes.now }
+        ensures after { Puts result (piece self.old) place.slot place.number bytes.now
+            (piece self.new) }
         ensures size { capacity self.new ≡ capacity self.old }
         ensures loan { loan self.new ≡ loan self.old }
         ensures rest { rest self.new ≡ rest self.old };
@@ -78,8 +81,10 @@ pub trait Shelf {
     /// Writes the piece at the start of the buffer, and answers its length.
     /// Where the place holds nothing or the buffer is too short, it writes nothing and answers 0.
     fn copy_out(&self, place: Place, buffer: &mut [u8]) -> usize
-        ensures answer { result ≡ copied_length (piece self.now place.slot place.number) buffer.old }
-        ensures wrote { buffer.new ≡ copied_over (piece self.now place.slot place.number) buffer.old };
+        ensures answer { result ≡
+            copied_length (piece self.now place.slot place.number) buffer.old }
+        ensures wrote { buffer.new ≡
+            copied_over (piece self.now place.slot place.number) buffer.old };
 
     /// Empties every place of the slot.
     fn clear(&mut self, slot: usize)

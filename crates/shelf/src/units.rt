@@ -80,7 +80,8 @@ fn free_at<U: Unit<N>, const N: usize>(memory: &mut [u8], index: usize)
 
 /// Frees the whole units of a memory that are used for this slot.
 pub fn free_slot<U: Unit<N>, const N: usize>(memory: &mut [u8], slot: usize)
-    ensures cleared { Cleared U.in_slot U.Freed (unit_at N memory.old) slot (length memory.old / N) (unit_at N memory.new) }
+    ensures cleared { Cleared U.in_slot U.Freed
+        (unit_at N memory.old) slot (length memory.old / N) (unit_at N memory.new) }
     ensures size { length memory.new ≡ length memory.old }
 {
     // Units are freed in place, so each is found by its index.
