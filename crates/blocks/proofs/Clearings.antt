@@ -11,9 +11,8 @@ use Rattle.block.specs.Blocks.{Lawful, free}
 use Rattle.block.specs.Fields.{slot_in, number_in, whole_in}
 use Rattle.block.specs.Dumps.{is_used}
 use Rattle.blocks.specs.Parts.{in_slot, content_of, sits, sits_part, part_in, piece_in, Sound}
-use Rattle.blocks.specs.Steps.{Freed}
+use Rattle.blocks.specs.Steps.{Freed, freed_unused}
 use Rattle.blocks.specs.Sounds.{none_piece, part_says}
-use Rattle.blocks.proofs.Fills.{freed_unused}
 
 -- blocks that are all free hold nothing
 module _ (d : Units) (count : ℕ) (all_free : (i : ℕ) → i < count → Freed (d i)) where

@@ -1,5 +1,5 @@
 -- A block that is written.
-use Rattle.std.proofs.Common.{◌≡◌, ℕ, ◌+◌, ◌-◌, ◌/◌, ◌%◌, ◌≤◌, true, false, eqb, List, [], ◌∷◌, ◌++◌, length, take, drop, set, replicate, refl, ap, ◌∙◌, arith, length-set, rules}
+use Rattle.std.proofs.Common.{◌≡◌, ℕ, ◌+◌, ◌-◌, ◌/◌, ◌%◌, ◌≤◌, true, eqb, List, [], ◌∷◌, ◌++◌, length, take, drop, set, replicate, refl, ap, ◌∙◌, arith, length-set, rules}
 use borrow.Rule.Slice.PartMut.{put_mid}
 use Rattle.std.proofs.lemmas.List.Edits.{sets-eq}
 use Rattle.std.proofs.lemmas.List.{append_assoc, drop_all, length-replicate, take_at}
@@ -8,12 +8,12 @@ use Rattle.std.proofs.lemmas.Bool.Decides.{nat_tests}
 use Rattle.wire.specs.declared.order.ByteOrder.TheVariants.{Big}
 use Rattle.wire.specs.Numbers.{digits}
 use Rattle.block.specs.Check.{check_of}
-use Rattle.block.specs.Blocks.{Part, InRange, free_front, used_front, sealed, used}
+use Rattle.block.specs.Blocks.{Part, InRange, used_front, sealed, used}
 use Rattle.block.specs.Fields.{index_in, length_in, whole_in}
 use Rattle.block.specs.Dumps.{is_used}
 use Rattle.block.proofs.Layouts.{found_lawful}
 use Rattle.blocks.specs.Parts.{part_from, content_of, sits, sits_part}
-use Rattle.blocks.specs.Steps.{Filled, Freed}
+use Rattle.blocks.specs.Steps.{Filled}
 
 -- two bytes written where the check stands
 pub check_written : (m : List ℕ) (high low : ℕ) → length m ≡ 512 → set (set m 510 high) 511 low ≡ take 510 m ++ (high ∷ low ∷ [])
@@ -58,10 +58,6 @@ module _ (m bytes part zeros : List ℕ) (slot number index whole high low whole
 -- what a filled and a freed block are
 pub filled_long : (p : Part) (x : List ℕ) → InRange p → Filled p x → length x ≡ 512
 filled_long p x range e = (found_lawful x (used p range e)).long
-
-pub freed_unused : (x : List ℕ) → Freed x → is_used x ≡ false
-unfolding free_front
-freed_unused x e = ap is_used e
 
 -- what a filled block says
 module _ (p : Part) (x : List ℕ) (range : InRange p) (e : Filled p x) where

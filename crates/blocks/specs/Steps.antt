@@ -1,4 +1,5 @@
 -- What is found among blocks, and how they are written.
+use Rattle.std.proofs.Common.{ap}
 use Rattle.std.specs.Prelude.{◌≡◌, ℕ, ◌+◌, ◌*◌, ◌/◌, ◌<◌, ◌≤◌, min, Bool, true, false, List, [], length, take, drop, slice_index}
 use Rattle.shelf.specs.Sums.{count_of}
 use Rattle.block.specs.Limits.{block_length, data_length}
@@ -25,6 +26,10 @@ Filled p x = x ≡ sealed (used_front p)
 -- the block x holds nothing
 abbrev pub Freed : List ℕ → Type 0
 Freed x = x ≡ sealed free_front
+
+pub freed_unused : (x : List ℕ) → Freed x → is_used x ≡ false
+unfolding free_front
+freed_unused x e = ap is_used e
 
 -- the first k parts of the bytes are stored at the place, each in a block that was free: b before, d now
 pub record StoredParts (b : Units) (count slot number : ℕ) (bytes : List ℕ) (k : ℕ) (d : Units) : Type 0 where

@@ -6,7 +6,7 @@ ghost use Rattle.block.specs.Fields.{slot_in, number_in, length_in, whole_in};
 ghost use Rattle.block.specs.Dumps.{is_used};
 ghost use Rattle.blocks.specs.Limits.{some_byte};
 ghost use Rattle.blocks.specs.Parts.{shown, content_of, in_slot, sits_part};
-ghost use Rattle.blocks.specs.Steps.{Filled, Freed};
+ghost use Rattle.blocks.specs.Steps.{Filled, Freed, freed_unused};
 
 use block::{
     BLOCK_LENGTH, CHECK_AT, DATA_AT, INDEX_AT, LENGTH_AT, NUMBER_AT, SLOT_AT, STATE_AT, USED,
@@ -41,6 +41,8 @@ impl Unit<BLOCK_LENGTH> for Block {
     }
 
     ghost some_byte = { some_byte };
+
+    ghost unused = { freed_unused };
 }
 
 /// One part of a piece: where the piece stands, which part it is, the length of the whole piece,

@@ -127,7 +127,7 @@ impl<'a> Shelf for BlockShelf<'a> {
     }
 
     fn holds(&self, place: Place, bytes: &[u8]) -> bool {
-        bytes.len() > 0 && self.is_piece(place, bytes)
+        !bytes.is_empty() && self.is_piece(place, bytes)
     }
 
     fn length(&self, place: Place) -> usize {

@@ -51,6 +51,8 @@ impl Unit<CELL_LENGTH> for Cell {
     }
 
     ghost some_byte = { some_byte };
+
+    ghost unused = { λ x f. f.unused };
 }
 
 // Whether the cell is used for this place.

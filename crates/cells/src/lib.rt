@@ -22,6 +22,7 @@ mod cell;
 pub const MAX_CELLS: usize = 512;
 
 /// A shelf with a cell of 1,456 bytes for each piece, so that each piece costs one unit.
+// The block shelf has the same fields: a struct of them, lent out for each write, is no plainer.
 #[derive(Drop)]
 pub struct CellShelf<'a> {
     memory: &'a mut [u8],
@@ -103,7 +104,7 @@ impl<'a> Shelf for CellShelf<'a> {
     }
 
     fn holds(&self, place: Place, bytes: &[u8]) -> bool {
-        bytes.len() > 0 && self.piece(place) == bytes
+        !bytes.is_empty() && self.piece(place) == bytes
     }
 
     fn length(&self, place: Place) -> usize {

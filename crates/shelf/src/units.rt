@@ -1,5 +1,5 @@
 // The memory of a shelf: units of one length, one after the other.
-ghost use Rattle.std.specs.Prelude.{◌≡◌, ℕ, ◌+◌, ◌*◌, ◌/◌, ◌<◌, ◌≤◌, min, Bool, not, List, length, MatchOption};
+ghost use Rattle.std.specs.Prelude.{◌≡◌, ℕ, ◌+◌, ◌*◌, ◌/◌, ◌<◌, ◌≤◌, Bool, false, not, List, length, MatchOption};
 ghost use Rattle.shelf.specs.Sums.{count_of};
 ghost use Rattle.shelf.specs.Memories.{unit_at, nth_unit, NoneFree, IsFree, OneUnit, Cleared};
 
@@ -26,8 +26,11 @@ pub trait Unit<const N: usize> {
     fn free(unit: &mut [u8; N])
         ensures { Freed unit.new };
 
-    // it has a byte
+    // a unit has a byte
     ghost some_byte: { 0 < N };
+
+    // one that is free is not used
+    ghost unused: { (x : List ℕ) → Freed x → used x ≡ false };
 }
 
 /// The index of a unit that is free.
