@@ -99,6 +99,8 @@ impl<'a> BlockShelf<'a> {
 }
 
 impl<'a> Shelf for BlockShelf<'a> {
+    const UNIT: usize = DATA_LENGTH;
+
     ghost unit = { data_length };
 
     ghost piece = { λ x. piece_in (block_at x.memory.now) x.count };
@@ -112,7 +114,7 @@ impl<'a> Shelf for BlockShelf<'a> {
     fn unit_size() -> usize
         ensures { result ≡ data_length }
     {
-        DATA_LENGTH
+        Self::UNIT
     }
 
     fn put(&mut self, place: Place, bytes: &[u8]) -> bool {

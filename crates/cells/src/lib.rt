@@ -75,6 +75,8 @@ fn find(cells: &[[u8; CELL_LENGTH]], place: Place) -> Option<usize>
 }
 
 impl<'a> Shelf for CellShelf<'a> {
+    const UNIT: usize = MAX_PIECE;
+
     ghost unit = { max_piece };
 
     ghost piece = { λ x. piece_in (cell_at x.memory.now) x.count };
@@ -88,7 +90,7 @@ impl<'a> Shelf for CellShelf<'a> {
     fn unit_size() -> usize
         ensures { result ≡ max_piece }
     {
-        MAX_PIECE
+        Self::UNIT
     }
 
     fn put(&mut self, place: Place, bytes: &[u8]) -> bool {

@@ -6,7 +6,7 @@ ghost use Rattle.collection.specs.Kept.{Open, OfHeard, OfHeardAt, Tells, Related
 
 use crate::fragment::Fragment;
 use numbers::NumberSet;
-use shelf::Shelf;
+use shelf::{Place, Shelf};
 
 /// What is kept of the packets heard of one unique id, apart from their bodies.
 // What holds of it hangs on those packets and their bodies too (`Open`): no ghost field and no Model can say it.
@@ -137,7 +137,11 @@ impl Summary {
         if !self.heard.contains(packet.number) {
             return false;
         }
-        let same_body = shelf.holds(slot, packet.number as usize, packet.body);
+        let place = Place {
+            slot,
+            number: packet.number as usize,
+        };
+        let same_body = shelf.holds(place, packet.body);
         let same_stop = packet.stop == self.stops_at(packet.number);
         !(same_body & same_stop)
     }

@@ -14,7 +14,7 @@ use crate::steps::{begun, completion, fragment_of, join, own_slot, place};
 use collection::fragment::Fragment;
 use collection::summary::Relation;
 use packet::Packet;
-use shelf::Shelf;
+use shelf::{Place, Shelf};
 use wire::limits::MAX_SLOTS;
 use wire::refusal::{Fault, Layer, Refusal};
 
@@ -47,7 +47,6 @@ impl<S: Shelf> Receiver<S> {
         for slot in 0..MAX_SLOTS {
             shelf.clear(slot);
         }
-        shelf.tidy();
         let patience = if patience == 0 {
             DEFAULT_PATIENCE
         } else {
@@ -83,9 +82,7 @@ impl<S: Shelf> Receiver<S> {
             return Err(Layer::Receiver.refusal(Fault::SlotsTaken, 0));
         };
         let stay = begun(self.slots[k], packet.id);
-        let answer = self.take_in(k, stay, fragment_of(packet));
-        self.shelf.tidy();
-        answer
+        self.take_in(k, stay, fragment_of(packet))
     }
 
     // Takes a packet into the slot `at`, whose stay is this as the packet finds it.
@@ -114,7 +111,11 @@ impl<S: Shelf> Receiver<S> {
                     Ok(Outcome::Repeated)
                 }
                 Relation::New => {
-                    if !self.shelf.put(at, fragment.number as usize, fragment.body) {
+                    let place = Place {
+                        slot: at,
+                        number: fragment.number as usize,
+                    };
+                    if !self.shelf.put(place, fragment.body) {
                         return Err(Layer::Receiver.refusal(Fault::ShelfFull, 0));
                     }
                     let summary = summary.with(fragment);
@@ -148,7 +149,6 @@ impl<S: Shelf> Receiver<S> {
                 join(&self.shelf, k, extent.pieces as usize, buffer);
                 self.shelf.clear(k);
                 self.slots[k] = Some(stay.turned(Phase::Fetched));
-                self.shelf.tidy();
                 Ok(extent.length)
             }
         }
@@ -172,7 +172,6 @@ impl<S: Shelf> Receiver<S> {
         for i in 0..MAX_SLOTS {
             self.age(i);
         }
-        self.shelf.tidy();
     }
 
     // Lets a tick pass for one slot.

@@ -14,7 +14,7 @@ use crate::unique_id::UniqueId;
 use collection::fragment::Fragment;
 use collection::summary::Summary;
 use packet::Packet;
-use shelf::Shelf;
+use shelf::{Place, Shelf};
 
 // Whether the slot holds a stay of the id.
 fn bears(slot: &Option<Stay>, id: &[u8]) -> bool
@@ -90,6 +90,6 @@ pub(crate) fn join<S: Shelf>(shelf: &S, k: usize, count: usize, buffer: &mut [u8
 {
     let mut at = 0;
     for number in 0..count {
-        at += shelf.copy_out(k, number, &mut buffer[at..]);
+        at += shelf.copy_out(Place { slot: k, number }, &mut buffer[at..]);
     }
 }

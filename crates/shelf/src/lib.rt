@@ -35,6 +35,9 @@ impl Place {
 /// A shelf has a fixed number of units, its capacity, and a piece costs as many units as it begins.
 /// Every call is answered for every argument: a place out of range holds nothing and takes nothing.
 pub trait Shelf {
+    /// The size of a unit in bytes.
+    const UNIT: usize;
+
     // the size of a unit in bytes
     ghost unit: { ℕ };
 
@@ -50,8 +53,8 @@ pub trait Shelf {
     // what stands in that memory past the shelf's units
     ghost rest: { Self → List ℕ };
 
-    /// The size of a unit in bytes.
-    // A constant with such a promise is not proved for a type that borrows its memory.
+    /// The size of a unit in bytes, with its promise.
+    // A constant's own promise, a ghost member of its name, is not proved for a type that borrows its memory.
     fn unit_size() -> usize
         ensures { result ≡ unit };
 

@@ -74,7 +74,7 @@ returns-else-extent-buffer g c =
     let known : Extends c.in-Sound.summary (s.piece k) c.whole.result = λ ps o. c.whole.ensures ps (s.piece k) o in
     let wrote : (h : History) → Explains h s → (take x.length new ≡ joined (s.piece k) x.pieces) × (new ≡ take x.length new ++ drop x.length was) = λ h ex.
     handed (joined (s.piece k) x.pieces) was new x.length (size_known h s ex id k stay own c.in-Sound.summary c.in-Sound.is c.whole.result known x c.in-Some-whole.is) c.if-extent-buffer.false c.join.ensures in
-    let tidy : Tidy S.unit (S.capacity me.shelf) P = subst (λ (n : ℕ). Tidy S.unit n P) c.clear.ensures.size c.tidy.ensures in
+    let tidy : Tidy S.unit (S.capacity me.shelf) P = subst (λ (n : ℕ). Tidy S.unit n P) c.clear.ensures.size (g.met.S.Shelf.tidy c.clear.new.self) in
     let terms = terms_as me.patience S.unit (S.capacity me.shelf) (S.capacity c.clear.new.self) c.clear.ensures.size in
     let bare = cleared (S.piece me.shelf) P k c.clear.ensures.after in
     let others = cleared_not (S.piece me.shelf) P k c.clear.ensures.after in

@@ -39,7 +39,7 @@ pub returns : goal.returns
 returns g c =
     let S = g.S.Shelf in
     let s : Seen = seen S c.args.self.now in
-    let e : Seen = seen S c.take_in-answer.new.self in
+    let e : Seen = seen S c.take_in.new.self in
     let p = c.in_ok-packet.packet in
     let xs = c.args.datagram.now in
     let id = p.id.now in
@@ -47,10 +47,10 @@ returns g c =
     let home = c.in-Some.ensures in
     let q : FragmentValue = fragment-shown c.fragment_of.result in
     let carries : Carries xs id q = record { value = shown p; encodes = c.in_ok-packet.ensures.answer; id_is = refl; says = sym c.fragment_of.ensures } in
-    let t = c.take_in-answer.ensures in
-    let r = arrival_reply c.take_in-answer.result in
+    let t = c.take_in.ensures in
+    let r = arrival_reply c.take_in.result in
     let begun : Begun (at s.slots k) id c.begun-stay.result = subst (λ (x : Slot). Begun x id c.begun-stay.result) (get_or_default s.slots k _ None home.0) c.begun-stay.ensures in
-    let tidy : Tidy s.terms.unit s.terms.capacity e.piece = subst (λ (x : Terms). Tidy x.unit x.capacity e.piece) t.only_here.same_terms c.tidy.ensures in
+    let tidy : Tidy s.terms.unit s.terms.capacity e.piece = subst (λ (x : Terms). Tidy x.unit x.capacity e.piece) t.only_here.same_terms (g.met.S.Shelf.tidy c.take_in.new.self.shelf) in
     record {
       same_terms = t.only_here.same_terms;
       same_lent = t.only_here.same_lent;

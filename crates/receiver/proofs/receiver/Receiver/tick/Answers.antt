@@ -28,7 +28,7 @@ returns g c =
     let inv = c.loop-i.invariant in
     let e : c.loop-i.i ≡ max_slots = omega arith in
     let all : Aged s.terms.patience max_slots s.slots s.piece m.slots m.piece = subst (λ (n : ℕ). Aged s.terms.patience n s.slots s.piece m.slots m.piece) e inv.aged in
-    let tidy : Tidy s.terms.unit s.terms.capacity m.piece = subst (λ (x : Terms). Tidy x.unit x.capacity m.piece) inv.same_terms c.tidy.ensures in
+    let tidy : Tidy s.terms.unit s.terms.capacity m.piece = subst (λ (x : Terms). Tidy x.unit x.capacity m.piece) inv.same_terms (g.met.S.Shelf.tidy c.loop-i.self.shelf) in
     record {
       same_terms = inv.same_terms;
       same_lent = inv.same_lent;
