@@ -1,7 +1,7 @@
 // The packet shelf: it keeps the bodies of packets by slot and packet number.
 #![tactic(auto)]
 
-ghost use Rattle.std.specs.Prelude.{◌≡◌, ℕ, List, length, Decides};
+ghost use Rattle.std.specs.Prelude.{◌≡◌, ◌↔◌, IsTrue, ℕ, List, length};
 ghost use Rattle.std.specs.Borrow.{GName};
 ghost use Rattle.shelf.specs.Pieces.{HoldsJust, copied_length, copied_over};
 ghost use Rattle.shelf.specs.Units.{range_test, free_units, takes, Puts, Clears, Tidy};
@@ -71,7 +71,8 @@ pub trait Shelf {
 
     /// Whether the place holds just these bytes.
     fn holds(&self, place: Place, bytes: &[u8]) -> bool
-        ensures { Decides result (HoldsJust (piece self.now place.slot place.number) bytes.now) };
+        ensures { IsTrue result ↔
+            HoldsJust (piece self.now place.slot place.number) bytes.now };
 
     /// The length of the piece at the place, 0 for nothing.
     fn length(&self, place: Place) -> usize

@@ -98,6 +98,8 @@ pub fn free_slot<U: Unit<N>, const N: usize>(memory: &mut [u8], slot: usize)
 /// Frees every whole unit of a memory, whatever stood there.
 pub fn free_all<U: Unit<N>, const N: usize>(memory: &mut [u8])
     ensures freed { (i : ℕ) → i < length memory.old / N → U.Freed (unit_at N memory.new i) }
+    ensures later { (i : ℕ) → length memory.old / N ≤ i →
+        unit_at N memory.new i ≡ unit_at N memory.old i }
     ensures size { length memory.new ≡ length memory.old }
 {
     // Units are freed in place, so each is found by its index.
