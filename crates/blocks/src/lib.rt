@@ -29,6 +29,7 @@ pub const MAX_BLOCKS: usize = 1024;
 #[derive(Drop)]
 pub struct BlockShelf<'a> {
     memory: &'a mut [u8],
+    // how many blocks it has: no length of the memory, which the lender gets back with the bytes after them
     count: usize,
     ghost fits: { count * block_length ≤ length memory.now },
     ghost sound: { ∥ Sound (block_at memory.now) count ∥₁ },

@@ -24,6 +24,7 @@ const NUMBER_AT: usize = 2;
 
 const LENGTH_AT: usize = 4;
 
+// Bytes of the notes and no enum: nothing reads them but one test for `USED`.
 const FREE: u8 = 0;
 
 const USED: u8 = 1;

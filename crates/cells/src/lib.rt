@@ -26,6 +26,7 @@ pub const MAX_CELLS: usize = 512;
 #[derive(Drop)]
 pub struct CellShelf<'a> {
     memory: &'a mut [u8],
+    // how many cells it has: no length of the memory, which the lender gets back with the bytes after them
     count: usize,
     ghost fits: { count * cell_length ≤ length memory.now },
     ghost sound: { ∥ Sound (cell_at memory.now) count ∥₁ },

@@ -168,7 +168,7 @@ impl<S: Shelf> Receiver<S> {
     pub fn tick(&mut self)
         ensures { Step ticks done (seen S.Shelf self.old) (seen S.Shelf self.new) }
     {
-        // by index: after `iter_mut` a proof does not know the elements
+        // By index: after `iter_mut` a proof does not know the elements.
         for i in 0..MAX_SLOTS {
             self.age(i);
         }

@@ -2,8 +2,8 @@
 ghost use Rattle.std.specs.Prelude.{◌≡◌, ℕ, ◌≤◌, ◌↔◌, IsTrue, List, ◌++◌, length, MatchOption};
 ghost use Rattle.packet.specs.Limits.{max_id};
 ghost use Rattle.packet.specs.Packets.{InRange, shown as packet-shown};
-ghost use Rattle.collection.specs.Fragments.{FragmentValue, joined};
-ghost use Rattle.collection.specs.Kept.{Open, shown};
+ghost use Rattle.collection.specs.Fragments.{joined};
+ghost use Rattle.collection.specs.Kept.{OfHeard, shown};
 ghost use Rattle.history.specs.Stays.{fragment_of};
 ghost use Rattle.receiver.specs.Slots.{Bears};
 ghost use Rattle.receiver.specs.Parts.{Absent, OwnSlot, AllTaken, FreeSlot, Home, Crowded, Begun, Completes, Joins};
@@ -74,8 +74,7 @@ pub(crate) fn fragment_of<'a>(packet: Packet<'a>) -> Fragment<'a>
 
 /// What a new packet comes to, with which the summary is this.
 pub(crate) fn completion(summary: Summary) -> Outcome
-    ensures { (ps : List FragmentValue) (piece : ℕ → List ℕ)
-        → Open ps summary piece → Completes ps result }
+    ensures { OfHeard summary (λ ps _. Completes ps result) }
 {
     if summary.whole().is_some() {
         Outcome::Whole
@@ -89,6 +88,7 @@ pub(crate) fn join<S: Shelf>(shelf: &S, k: usize, count: usize, buffer: &mut [u8
     ensures { Joins (joined (S.Shelf.piece shelf.now k) count) buffer.old buffer.new }
 {
     let mut at = 0;
+    // A range of packet numbers, and `at` is known only from the lengths before: no chain writes into a buffer.
     for number in 0..count {
         at += shelf.copy_out(Place { slot: k, number }, &mut buffer[at..]);
     }

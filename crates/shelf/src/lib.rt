@@ -75,6 +75,7 @@ pub trait Shelf {
             HoldsJust (piece self.now place.slot place.number) bytes.now };
 
     /// The length of the piece at the place, 0 for nothing.
+    // It is no Option: a piece has a byte, so 0 tells nothing from a piece, and lengths add up.
     fn length(&self, place: Place) -> usize
         ensures { result ≡ length (piece self.now place.slot place.number) };
 
@@ -84,6 +85,7 @@ pub trait Shelf {
 
     /// Writes the piece at the start of the buffer, and answers its length.
     /// Where the place holds nothing or the buffer is too short, it writes nothing and answers 0.
+    // It is no Option: what was written is so many bytes, and 0 says that none were.
     fn copy_out(&self, place: Place, buffer: &mut [u8]) -> usize
         ensures answer { result ≡
             copied_length (piece self.now place.slot place.number) buffer.old }

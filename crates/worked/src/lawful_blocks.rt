@@ -96,7 +96,7 @@ fn other_lengths(rt: HostRuntime) -> Result<(), Fail> {
     Ok(())
 }
 
-// The number of used blocks, or the number and the place of the refusal.
+// The number of used blocks, or the number and the place of the refusal, as users are promised them.
 fn told(inspected: Result<usize, Refusal>) -> (usize, u8, usize) {
     match inspected {
         Ok(used) => (used, 0, 0),

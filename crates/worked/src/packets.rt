@@ -149,7 +149,7 @@ fn datagram(
     Ok(bytes)
 }
 
-// The number and the place of a refusal by the packet layer.
+// The number and the place of a refusal by the packet layer: the tables have the numbers, which users are promised.
 fn told(refusal: &Refusal) -> (u8, usize) {
     match refusal.layer {
         Layer::Packet => (refusal.fault.number(), refusal.place),
