@@ -1,16 +1,11 @@
 -- The blocks of a dump, byte by byte.
-use Rattle.std.proofs.Common.{◌≡◌, ℕ, zero, suc, ◌+◌, ◌-◌, ◌*◌, ◌<◌, ◌≤◌, List, length, get_or, take, drop, count_by, sym, refl, ap, ◌∙◌, arith, get_or-drop, get_or-take, inl, inr, add-one, []}
+use Rattle.std.proofs.Common.{◌≡◌, ℕ, zero, suc, ◌+◌, ◌*◌, ◌<◌, ◌≤◌, List, length, get_or, take, drop, count_by, sym, refl, ap, ◌∙◌, arith, get_or-drop, get_or-take, inl, inr, add-one, []}
 use Rattle.std.specs.Simd.{first_chunks}
 use Rattle.std.proofs.lemmas.List.{ext_get_or, length-drop, length-take, length-take-le, get_or_past, drop-drop, take_all}
 use Rattle.std.proofs.lemmas.List.Sums.{count_by_more_yes, count_by_more_no}
 use Rattle.std.proofs.lemmas.Bool.{cases_Bool}
 use Rattle.block.specs.Limits.{block_length}
 use Rattle.block.specs.Dumps.{block_at, is_used, used_among}
-
--- a block as the code takes it from the dump
-pub slice_block : (m : List ℕ) (i : ℕ) → take (i * block_length + block_length - i * block_length) (drop (i * block_length) m) ≡ block_at m i
-unfolding block_at
-slice_block m i = let e : i * block_length + block_length - i * block_length ≡ block_length = omega arith in ap (λ n. take n (drop (i * block_length) m)) e
 
 pub block_octet : (m : List ℕ) (i k : ℕ) → k < block_length → get_or (block_at m i) k 0 ≡ get_or m (i * block_length + k) 0
 unfolding block_at

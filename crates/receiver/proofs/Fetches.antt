@@ -9,7 +9,7 @@ use Rattle.collection.specs.Fragments.{FragmentValue, Whole, Counted, LowestUnhe
 use Rattle.collection.specs.Kept.{Open}
 use Rattle.collection.specs.declared.summary.Extent.{Extent}
 use Rattle.collection.specs.declared.summary.Summary.{Summary}
-use Rattle.history.specs.Calls.{State, Reply, History, fetches, asks, is_gathering, is_whole, is_spoiled, is_fetched, delivered, told, refused_by}
+use Rattle.history.specs.Calls.{State, Reply, History, fetches, is_gathering, is_whole, is_spoiled, is_fetched, delivered, told, refused_by}
 use Rattle.history.specs.Stays.{Stay, outside, inside, fetched_now, Stands}
 use Rattle.history.specs.Answers.{FetchAnswer, gathers, spoilt, fetched_before, too_short, hands_out, FetchDue, StayState, looks_gathering, looks_whole, looks_spoiled, looks_fetched, StateDue}
 use Rattle.history.proofs.Standings.{same_or}
@@ -141,7 +141,3 @@ refused_step s id n e due = record {
   keeps_slots = λ h ex. quiet_keeps h s ex;
   explained = λ h ex. quiet_step h s ex (fetches id n) (refusal_reply e) s.refused s.lent (λ i x st. elim (same_or id i) [ inl same ↦ inl (same, refl) | inr ne ↦ inr (ne, refl) ]) (let z = ex.count in omega (arith, z));
 }
-
-pub ask_step : (h : History) (s : Seen) → Explains h s → (id : List ℕ) (r : Reply) (lent : Lent)
-    → Explains (record { call = asks id; reply = r } ∷ h) (record { terms = s.terms; slots = s.slots; piece = s.piece; refused = s.refused; lent = lent })
-ask_step h s ex id r lent = quiet_step h s ex (asks id) r s.refused lent (λ i x st. refl) (let z = ex.count in omega (arith, z))

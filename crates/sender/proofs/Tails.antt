@@ -26,9 +26,6 @@ module _ (L h n : ℕ) (t q missing rest bodies left : List ℕ)
   high : h + length q ≤ n * L + L
   high = grind (arith, common_steps)
 
-  missing_long : length missing ≡ L - h
-  missing_long = grind (arith, common_steps)
-
   first_long : length (t ++ missing) ≡ L
   first_long = grind (arith, common_steps)
 

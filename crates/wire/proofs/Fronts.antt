@@ -1,6 +1,6 @@
 -- A stretch of a list, element by element.
 use Rattle.std.proofs.Common.{◌≡◌, ℕ, zero, suc, ◌+◌, ◌<◌, ◌≤◌, List, [], ◌∷◌, ◌++◌, length, get_or, take, drop, sym, refl, ap, ◌∙◌, arith}
-use Rattle.std.proofs.lemmas.List.{take-append-drop, drop-drop, drop_more, take_all}
+use Rattle.std.proofs.lemmas.List.{take-append-drop, drop-drop, drop_more}
 
 -- the n elements from k on, written out
 abbrev pub elements : ℕ → ℕ → List ℕ → List ℕ
@@ -13,9 +13,6 @@ take_elements (suc n) k xs h =
     let l : k < length xs = omega arith in
     let m : (k + 1) + n ≤ length xs = omega arith in
     ap (take (suc n)) (drop_more xs k 0 l) ∙ ap (λ t. get_or xs k 0 ∷ t) (take_elements n (k + 1) xs m)
-
-pub all_elements : (n : ℕ) (xs : List ℕ) → length xs ≡ n → xs ≡ elements n 0 xs
-all_elements n xs h = sym (take_all n xs (omega arith)) ∙ take_elements n 0 xs (omega arith)
 
 -- a list from k on is its n elements there and the list from k + n on
 pub split_at : (n k : ℕ) (xs : List ℕ) → drop k xs ≡ take n (drop k xs) ++ drop (k + n) xs
