@@ -1,9 +1,23 @@
-use Rattle.std.proofs.Common.{ℕ, Bool, List, sym, ap, ◌∙◌}
+use Rattle.std.proofs.Common.{ℕ, ◌≤◌, Bool, List, sym, ap, ◌∙◌, subst}
+use Rattle.wire.specs.Limits.{max_piece}
 use Rattle.shelf.proofs.Picks.{pick_last}
 use Rattle.shelf.proofs.Listed.{listed_none, listed_last}
-use Rattle.cells.specs.Cells.{sits, content_of, cell_at}
-use Rattle.cells.specs.Sounds.{none_piece}
+use Rattle.cells.specs.Cells.{length_in, sits, content_of, cell_at}
+use Rattle.cells.specs.Props.{sound_of}
+use Rattle.cells.specs.Sounds.{sits_notes, none_piece}
 use Rattle.cells.proofs.CellShelf.piece.Goals as goal
+
+pub content-requires : goal.content-requires
+content-requires c =
+    let x = c.args.self.now in
+    let at = cell_at x.memory.now in
+    let i = c.in-Some.i in
+    let cells = c.cells-cells.ensures in
+    let slot = c.args.place.slot in
+    let number = c.args.place.number in
+    let last = listed_last c.cells-cells.result.now at x.count cells.size cells.each (λ x. sits x slot number) i c.in-Some.ensures in
+    let noted = (sound_of at x.count x.sound).noted i last.within (sits_notes (at i) slot number last.here).0 in
+    subst (λ (x : List ℕ). length_in x ≤ max_piece) (sym (cells.each i last.within)) noted.length_fits
 
 pub returns-in-Some : goal.returns-in-Some
 returns-in-Some c =
