@@ -45,7 +45,8 @@ pub const DATA_AT: usize = 8;
 /// Where the check of the bytes before stands.
 pub const CHECK_AT: usize = 510;
 
-// Bytes of the format and no enum: its `TryFrom` would be the match of `is_found_lawful` once more.
+// Bytes of the format and no enum: its `TryFrom` would be the match of `is_found_lawful` once more, and others
+// test for `USED` alone.
 /// The state of a block that holds nothing.
 pub const FREE: u8 = 0;
 
@@ -76,8 +77,8 @@ fn is_found_lawful(block: &[u8; BLOCK_LENGTH]) -> bool
         }
 }
 
-// Whether a lawful block is used.
-fn is_used(block: &[u8; BLOCK_LENGTH]) -> bool
+/// Whether the state of the block is `USED`.
+pub fn is_used(block: &[u8; BLOCK_LENGTH]) -> bool
     ensures { result ≡ is_used block.now }
 {
     block[STATE_AT] == USED

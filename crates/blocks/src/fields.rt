@@ -27,7 +27,7 @@ impl Unit<BLOCK_LENGTH> for Block {
     ghost Freed = { Freed };
 
     fn is_used(block: &[u8; BLOCK_LENGTH]) -> bool {
-        block[STATE_AT] == USED
+        block::is_used(block)
     }
 
     fn is_in_slot(block: &[u8; BLOCK_LENGTH], slot: usize) -> bool {

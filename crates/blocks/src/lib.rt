@@ -150,7 +150,7 @@ impl<'a> Shelf for BlockShelf<'a> {
         if length > buffer.len() {
             return 0;
         }
-        // Parts are written in place, so each is found by its index.
+        // By index: after `chunks_mut` a proof does not know the elements.
         for index in 0..part_count(length) {
             let part = self.part(place, index);
             buffer[index * DATA_LENGTH..index * DATA_LENGTH + part.len()].copy_from_slice(part);

@@ -56,6 +56,7 @@ fn fill_at(memory: &mut [u8], at: usize, part: Part<'_>)
 }
 
 /// Puts the parts of the bytes into free blocks, wherever they stand.
+// Of memory and count, and no method: until the last part is stored, what the shelf keeps does not hold.
 pub(crate) fn store(memory: &mut [u8], count: usize, place: Place, bytes: &[u8])
     requires fits { count * block_length ≤ length memory.old }
     requires sound { Sound (block_at memory.old) count }

@@ -24,7 +24,8 @@ const NUMBER_AT: usize = 2;
 
 const LENGTH_AT: usize = 4;
 
-// Bytes of the notes and no enum: nothing reads them but one test for `USED`.
+// Bytes of the notes and no enum: they are tested for `USED` alone. That a block has its state, slot and number at the
+// same places is chance: a format of its own, which may change alone.
 const FREE: u8 = 0;
 
 const USED: u8 = 1;

@@ -65,7 +65,7 @@ impl<'a> CellShelf<'a> {
     }
 }
 
-// The last cell that is used for this place.
+// The last cell that is used for this place. Beside the block shelf's `find_part` it has only its own test.
 fn find(cells: &[[u8; CELL_LENGTH]], place: Place) -> Option<usize>
     ensures { MatchOption result
         (NoneHit (λ x. sits x place.slot place.number) (nth_unit cells.now) (length cells.now))

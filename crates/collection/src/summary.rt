@@ -60,7 +60,7 @@ impl Summary {
     }
 
     /// How the fragment is related to the packets heard, whose bodies the shelf holds at the slot, each at its number.
-    // Shelf and slot stay parameters: each caller has them apart, and would build a struct of them for this one call.
+    // Shelf and slot stay parameters: the caller has them apart, and would build a struct of them for this one call.
     pub fn relate<S: Shelf>(self, shelf: &S, slot: usize, packet: Fragment) -> Relation
         ensures { OfHeardAt self (S.Shelf.piece shelf.now slot)
             (λ ps. Related ps (shown packet.entry) result) }
@@ -110,13 +110,14 @@ impl Summary {
     }
 
     /// The lowest packet number that was not heard, or `MAX_PACKETS` of `wire::limits` if all were.
+    // No Option, as in `NumberSet::lowest_absent`.
     pub fn lowest_unheard(self) -> u32
         ensures { OfHeard self (λ ps _. LowestUnheard ps result) }
     {
         self.heard.lowest_absent()
     }
 
-    // Does a packet heard contradict this one?
+    // Does a packet heard contradict this one? `|` and `&` have no branches, so a proof has one path.
     fn contradicts<S: Shelf>(self, shelf: &S, slot: usize, packet: Fragment) -> bool
         ensures { OfHeardAt self (S.Shelf.piece shelf.now slot)
             (λ ps. IsTrue result ↔ Against ps (shown packet.entry)) }

@@ -43,16 +43,16 @@ impl<S: Shelf + Drop, W: Write + Drop> Listener<S, W> {
 
 impl<S: Shelf + Drop, W: Write + Drop> Visitor for Listener<S, W> {
     fn visit(&mut self, index: u64, record: &[u8]) -> io::Result<()> {
-        match self.receiver.arrive(record) {
-            Ok(Outcome::Kept) => writeln!(self.out, "{index} kept"),
-            Ok(Outcome::Repeated) => writeln!(self.out, "{index} repeated"),
-            Ok(Outcome::Whole) => {
-                writeln!(self.out, "{index} whole")?;
-                match self.fetch(record) {
-                    Ok(length) => writeln!(self.out, "message {length}"),
-                    Err(refusal) => self.refused(index, refusal),
-                }
-            }
+        let outcome = match self.receiver.arrive(record) {
+            Ok(outcome) => outcome,
+            Err(refusal) => return self.refused(index, refusal),
+        };
+        writeln!(self.out, "{index} {outcome}")?;
+        if outcome != Outcome::Whole {
+            return Ok(());
+        }
+        match self.fetch(record) {
+            Ok(length) => writeln!(self.out, "message {length}"),
             Err(refusal) => self.refused(index, refusal),
         }
     }

@@ -10,7 +10,7 @@ ghost use Rattle.numbers.specs.Marks.{has, tally, NoneMarked, Inserted, Lowest, 
 use wire::limits::MAX_PACKETS;
 
 /// A set of packet numbers.
-// It has no Model: `has` hides the bits as well, and a Copy value would have to get them back from its marks.
+// It has no Model: `has` hides the bits as well, and a Copy value would have to work them out from its marks again.
 #[derive(Clone, Copy, Debug, PartialEq, Eq)]
 pub struct NumberSet {
     bits: u64,

@@ -34,15 +34,15 @@ const NUMBER_AT: usize = 8;
 
 const ID_LENGTH_AT: usize = 16;
 
-/// A packet. Its id and its body are parts of the datagram that it was read from.
+/// A packet. Its id and its body are borrowed: of a packet that was read, they are parts of its datagram.
 #[derive(Clone, Copy, Debug, PartialEq, Eq)]
 pub struct Packet<'a> {
     pub order: ByteOrder,
     /// Whether this is the last packet of its message.
     pub stop: bool,
     pub number: u32,
-    /// How many packets the message has, or 0 where that is not said: the header's own form, since an `Option`
-    /// could say `Some(0)` too.
+    /// How many packets the message has, or 0 where that is not said.
+    // The header's own form, which is read and written as it is: an `Option` would be put together and taken apart again.
     pub count: u32,
     /// The unique id of the message, the same in each of its packets.
     pub id: &'a [u8],
@@ -182,7 +182,9 @@ impl<'a> Packet<'a> {
 
     // The length of the packet's datagram, or why it has none.
     fn checked_size(&self) -> Result<usize, Refusal>
-        ensures { MatchResult result (λ n. Writable (shown self.now) n) (λ e. Refused (canonical (shown self.now)) e) }
+        ensures { MatchResult result
+            (λ n. Writable (shown self.now) n)
+            (λ e. Refused (canonical (shown self.now)) e) }
     {
         let id_length = self.id.len();
         let body_length = self.body.len();

@@ -1,4 +1,5 @@
 // What the receiver's calls answer.
+use std::fmt;
 
 /// What became of an arrival that is not refused.
 #[derive(Clone, Copy, Debug, PartialEq, Eq)]
@@ -11,6 +12,16 @@ pub enum Outcome {
     Whole,
 }
 
+impl fmt::Display for Outcome {
+    fn fmt<W: fmt::Write>(&self, f: &mut fmt::Formatter<W>) -> fmt::Result {
+        f.write_str(match self {
+            Outcome::Kept => "kept",
+            Outcome::Repeated => "repeated",
+            Outcome::Whole => "whole",
+        })
+    }
+}
+
 /// The state of an id.
 // no `Option` of four states: the state question has these five answers, each by its name
 #[derive(Clone, Copy, Debug, PartialEq, Eq)]
@@ -20,7 +31,7 @@ pub enum IdState {
     Gathering {
         /// How many packet numbers were heard.
         heard: u32,
-        /// The lowest packet number that was not heard, 64 if all were.
+        /// The lowest packet number that was not heard, 64 if all were (no Option, as in the summary).
         lowest_unheard: u32,
     },
     /// The message is complete, and waits to be fetched.

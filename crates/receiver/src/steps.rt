@@ -20,10 +20,7 @@ use shelf::{Place, Shelf};
 fn bears(slot: &Option<Stay>, id: &[u8]) -> bool
     ensures { IsTrue result ↔ Bears slot.now id.now }
 {
-    match slot {
-        Some(stay) => stay.id.as_slice() == id,
-        None => false,
-    }
+    slot.is_some_and(|stay| stay.id.as_slice() == id)
 }
 
 /// The slot that has a stay of the id.
@@ -88,7 +85,7 @@ pub(crate) fn join<S: Shelf>(shelf: &S, k: usize, count: usize, buffer: &mut [u8
     ensures { Joins (joined (S.Shelf.piece shelf.now k) count) buffer.old buffer.new }
 {
     let mut at = 0;
-    // A range of packet numbers, and `at` is known only from the lengths before: no chain writes into a buffer.
+    // A range of packet numbers: each piece begins where those before it end.
     for number in 0..count {
         at += shelf.copy_out(Place { slot: k, number }, &mut buffer[at..]);
     }

@@ -54,8 +54,8 @@ pub fn visit_whole<V: Visitor>(
     Ok((count, waiting.len() - records.rest().len()))
 }
 
-/// Visits each whole record of an input, to its end, and pauses after each piece of it that came.
-/// A last record that is cut is not visited.
+/// Visits each whole record of an input, to its end. A last record that is cut is not visited.
+// It pauses after each piece that came; how often that is, the contract leaves open.
 pub fn visit_all<R: Read, V: Visitor>(
     alloc: Global,
     input: &mut R,

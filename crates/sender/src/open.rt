@@ -23,6 +23,7 @@ pub struct OpenSender {
 
 impl OpenSender {
     /// A sender that has taken no byte yet. It uses up the ticket.
+    // Three parameters, as of `write_message`: a struct of them would be made for one call.
     pub fn begin(length: BodyLength, ticket: Ticket, order: ByteOrder) -> OpenSender
         ensures fresh { sending result.state ≡ new_sending (plan_by length.value ticket.id order) }
         ensures lawful { LawfulPlan (sending result.state).plan }

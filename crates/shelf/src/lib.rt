@@ -75,7 +75,7 @@ pub trait Shelf {
             HoldsJust (piece self.now place.slot place.number) bytes.now };
 
     /// The length of the piece at the place, 0 for nothing.
-    // It is no Option: a piece has a byte, so 0 tells nothing from a piece, and lengths add up.
+    // It is no Option: a piece has a byte, so 0 tells nothing from a piece.
     fn length(&self, place: Place) -> usize
         ensures { result ≡ length (piece self.now place.slot place.number) };
 

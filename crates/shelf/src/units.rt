@@ -87,7 +87,7 @@ pub fn free_slot<U: Unit<N>, const N: usize>(memory: &mut [u8], slot: usize)
         (unit_at N memory.old) slot (length memory.old / N) (unit_at N memory.new) }
     ensures size { length memory.new ≡ length memory.old }
 {
-    // Units are freed in place, so each is found by its index.
+    // By index: after `chunks_mut` a proof does not know the elements.
     for i in 0..memory.len() / N {
         if U::is_in_slot(&memory.as_chunks().0[i], slot) {
             free_at::<U, N>(memory, i);
@@ -102,7 +102,7 @@ pub fn free_all<U: Unit<N>, const N: usize>(memory: &mut [u8])
         unit_at N memory.new i ≡ unit_at N memory.old i }
     ensures size { length memory.new ≡ length memory.old }
 {
-    // Units are freed in place, so each is found by its index.
+    // By index: after `chunks_mut` a proof does not know the elements.
     for index in 0..memory.len() / N {
         free_at::<U, N>(memory, index);
     }

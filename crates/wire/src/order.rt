@@ -67,6 +67,7 @@ pub trait Word<const N: usize>: Sized {
         ensures { result ≡ digits Little N (value self) };
 }
 
+// An impl for each width: the integers' own calls of these names belong to no trait.
 impl Word<2> for u16 {
     ghost value = { λ short. short };
 

@@ -65,6 +65,7 @@ pub enum Fault {
 
 impl Fault {
     /// The number by which users know the fault.
+    // No `From`: the name says which of a fault's numbers it is.
     pub fn number(self) -> u8
         ensures { result ≡ fault_number self }
     {

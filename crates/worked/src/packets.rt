@@ -204,8 +204,8 @@ const WORKED: [u8; 27] = [
 
 #[test]
 fn packet_of_27_bytes(rt: HostRuntime) -> Result<(), Fail> {
-    let packet = Packet::read(&WORKED).ok().ok_or("refused")?;
-    assert!(rt; matches!(packet.order, ByteOrder::Big));
+    let packet = Packet::read(&WORKED)?;
+    assert_eq!(rt; packet.order, ByteOrder::Big);
     assert!(rt; packet.stop);
     assert_eq!(rt; packet.number, 0);
     assert_eq!(rt; packet.count, 0);
@@ -215,7 +215,7 @@ fn packet_of_27_bytes(rt: HostRuntime) -> Result<(), Fail> {
     padded[22] = 7;
     assert!(rt; Packet::read(&padded).is_ok(), "padding is not read");
     let mut back = [9; 29];
-    assert_eq!(rt; packet.write(&mut back).ok().ok_or("refused")?, 27);
+    assert_eq!(rt; packet.write(&mut back)?, 27);
     assert!(rt; &back[0..27] == WORKED.as_slice());
     assert!(rt;
         back[27] == 9 && back[28] == 9,

@@ -1,5 +1,4 @@
 // What refusals and byte orders are in print.
-use std::alloc::{AllocError, Global};
 use std::test::Fail;
 use wire::order::{ByteOrder, UnknownByteOrder};
 use wire::refusal::{Fault, Layer};

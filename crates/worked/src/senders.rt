@@ -42,10 +42,7 @@ fn in_portions(
     for (i, _byte) in message.iter().enumerate() {
         if ends >> (i % 32) as u32 & 1 == 1 || i + 1 == message.len() {
             let portion = message.get(from..i + 1).ok_or("portion")?;
-            let count = sender
-                .add(portion, buffer.as_mut_slice())
-                .ok()
-                .ok_or("refused")?;
+            let count = sender.add(portion, buffer.as_mut_slice())?;
             out.extend_from_slice(
                 buffer
                     .as_slice()
@@ -55,11 +52,7 @@ fn in_portions(
             from = i + 1;
         }
     }
-    let last = sender
-        .close()
-        .write_final(buffer.as_mut_slice())
-        .ok()
-        .ok_or("no last packet")?;
+    let last = sender.close().write_final(buffer.as_mut_slice())?;
     out.extend_from_slice(buffer.as_slice().get(0..last).ok_or("last")?)?;
     Ok(out)
 }
@@ -70,16 +63,11 @@ fn every_way_of_cutting(rt: HostRuntime) -> Result<(), Fail> {
     let message = b"hoist 4 to 3.20 m.";
     for order in [ByteOrder::Big, ByteOrder::Little] {
         let mut all = [0; 256];
-        let size = whole(order, message, &mut all).ok().ok_or("refused")?;
+        let size = whole(order, message, &mut all)?;
         assert_eq!(rt; size, 32 + 16 + 32 + 2);
         for ends in 0..131_072u32 {
-            match begun(order) {
-                Ok(sender) => {
-                    let out = in_portions(rt.alloc(), sender, message, ends)?;
-                    assert!(rt; all.get(0..size) == Some(out.as_slice()));
-                }
-                Err(_) => return Err(Fail::new("not begun")),
-            }
+            let out = in_portions(rt.alloc(), begun(order)?, message, ends)?;
+            assert!(rt; all.get(0..size) == Some(out.as_slice()));
         }
     }
     Ok(())
@@ -95,14 +83,11 @@ fn check_packets(
     let count = packets.chunks(FULL).count();
     let mut rest = message;
     for (i, bytes) in packets.chunks(FULL).enumerate() {
-        let packet = Packet::read(bytes).ok().ok_or("not a packet")?;
+        let packet = Packet::read(bytes)?;
         assert_eq!(rt; packet.number as usize, i);
         assert_eq!(rt; packet.count, 0);
         assert_eq!(rt; packet.stop, i + 1 == count);
-        assert_eq!(rt;
-            matches!(packet.order, ByteOrder::Big),
-            matches!(order, ByteOrder::Big)
-        );
+        assert_eq!(rt; packet.order, order);
         assert!(rt; packet.id == [0, 0, 0, 0, 0, 0, 0, 7, 0, 0, 0, 0].as_slice());
         assert!(rt; rest.starts_with(packet.body));
         rest = rest.get(packet.body.len()..).ok_or("body too long")?;
@@ -194,10 +179,8 @@ fn body_lengths(rt: HostRuntime) {
 fn tickets_in_order(rt: HostRuntime) -> Result<(), Fail> {
     let mut issuer = Issuer::new(0x0102_0304_0506_0708);
     for serial in 0..3u8 {
-        match issuer.issue() {
-            Ok(ticket) => assert!(rt; ticket.id() == [1, 2, 3, 4, 5, 6, 7, 8, 0, 0, 0, serial]),
-            Err(_) => return Err(Fail::new("refused")),
-        }
+        let ticket = issuer.issue()?;
+        assert!(rt; ticket.id() == [1, 2, 3, 4, 5, 6, 7, 8, 0, 0, 0, serial]);
     }
     Ok(())
 }

@@ -115,13 +115,9 @@ fn block_shelf(rt: HostRuntime) -> Result<(), Fail> {
         );
         assert!(rt; shelf.put(at(1, 2), &[9; 500]), "one block is enough");
         assert!(rt; !shelf.put(at(1, 3), b"c"), "no block is free");
-        assert_eq!(rt; inspect(shelf.blocks()).ok().ok_or("unlawful")?, 4);
+        assert_eq!(rt; inspect(shelf.blocks())?, 4);
     }
     assert!(rt; memory.ends_with(&[1; 5]), "the rest of the memory stays");
-    assert_eq!(rt;
-        inspect(memory.as_slice()).ok().ok_or("unlawful")?,
-        4,
-        "the dump passes"
-    );
+    assert_eq!(rt; inspect(memory.as_slice())?, 4, "the dump passes");
     Ok(())
 }
