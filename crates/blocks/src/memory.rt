@@ -72,9 +72,7 @@ pub(crate) fn store(memory: &mut [u8], count: usize, place: Place, bytes: &[u8])
     ensures rest { drop (count * block_length) memory.new ≡ drop (count * block_length) memory.old }
 {
     for (index, part) in bytes.chunks(DATA_LENGTH).enumerate() {
-        let Some(at) = find_free::<Block, BLOCK_LENGTH>(units(memory, count)) else {
-            return;
-        };
+        let at = find_free::<Block, BLOCK_LENGTH>(units(memory, count)).unwrap();
         let part = Part {
             place,
             index,

@@ -66,9 +66,7 @@ fn free<U: Unit<N>, const N: usize>(bytes: &mut [u8])
     ensures freed { U.Freed bytes.new }
     ensures long { length bytes.new ≡ N }
 {
-    if let Some(unit) = bytes.as_mut_array() {
-        U::free(unit);
-    }
+    U::free(bytes.as_mut_array().unwrap());
 }
 
 // Frees unit `index` of the memory.

@@ -1,6 +1,7 @@
-use Rattle.std.proofs.Common.{ℕ, ◌*◌, List, length, sym, refl, ◌∙◌, subst, arith}
+use Rattle.std.proofs.Common.{◌≡◌, ℕ, ◌*◌, List, length, Option, None, Some, IsSome, MatchOption, sym, refl, ◌∙◌, subst, arith}
 use Rattle.std.proofs.lemmas.Iterator.Consumers.{YieldsList-turn, YieldsList-end}
 use Rattle.std.proofs.lemmas.List.{length-append}
+use Rattle.shelf.specs.Memories.{nth_unit, NoneFree, IsFree}
 use Rattle.shelf.proofs.Places.{same_after}
 use Rattle.shelf.proofs.Listed.{listed_full, listed_free}
 use Rattle.block.specs.Blocks.{InRange}
@@ -19,17 +20,27 @@ loop-index-init c = record {
   past = λ _ _. refl;
 }
 
-pub returns-in_default : goal.returns-in_default
-returns-in_default c =
+-- what was found among the units, where one must be there
+found_some : (r : Option ℕ) (units : List (List ℕ)) → MatchOption r (NoneFree is_used (nth_unit units) (length units)) (λ i. IsFree is_used (nth_unit units) (length units) i)
+    → (NoneFree is_used (nth_unit units) (length units) → ⊥) → IsSome r
+found_some None units m never = absurd (never m)
+found_some (Some i) units m never = refl
+
+found_free : (r : Option ℕ) (units : List (List ℕ)) (i : ℕ) → r ≡ Some i
+    → MatchOption r (NoneFree is_used (nth_unit units) (length units)) (λ i. IsFree is_used (nth_unit units) (length units) i) → IsFree is_used (nth_unit units) (length units) i
+found_free r units i e m = subst (λ (o : Option ℕ). MatchOption o (NoneFree is_used (nth_unit units) (length units)) (λ i. IsFree is_used (nth_unit units) (length units) i)) e m
+
+pub unwrap-at-requires : goal.unwrap-at-requires
+unwrap-at-requires c =
     let bytes = c.args.bytes.now in
     let road = parts_road bytes c.into_iter-index-iterator.ensures.into_iter_gives c.enumerate-index-items.ensures.source c.enumerate-index-items.ensures.count
     c.chunks.ensures.rest c.chunks.ensures.size in
     let turn = part_turn bytes (length c.loop-index.yielded) (c.in-Some.index, c.in-Some.part.now)
     (YieldsList-turn road c.loop-index.yielded c.loop-index.index-iterator c.loop-index.yielded_by c.next.result c.next.new.self (c.in-Some.index, c.in-Some.part)
     c.in-Some.is c.next.ensures.steps) in
-    absurd (some_free (block_at c.args.memory.now) c.args.count c.args.place.slot c.args.place.number bytes (length c.loop-index.yielded)
+    found_some c.find_free.result c.units.result.now c.find_free.ensures (λ none. some_free (block_at c.args.memory.now) c.args.count c.args.place.slot c.args.place.number bytes (length c.loop-index.yielded)
     (block_at c.loop-index.memory) c.loop-index.invariant.stored (omega (arith, c.requires.room, turn.0))
-    (listed_full c.units.result.now (block_at c.loop-index.memory) c.args.count c.units.ensures.size c.units.ensures.each is_used c.in_default.ensures))
+    (listed_full c.units.result.now (block_at c.loop-index.memory) c.args.count c.units.ensures.size c.units.ensures.each is_used none))
 
 pub fill_at-requires-clause-range : goal.fill_at-requires-clause-range
 fill_at-requires-clause-range c =
@@ -56,10 +67,10 @@ loop-index-preserved c =
     let w = c.fill_at.new.memory in
     let slot = c.args.place.slot in
     let number = c.args.place.number in
-    let at = c.in-Some-find_free.at in
+    let at = c.unwrap-at.result in
     let k = length c.loop-index.yielded in
     let inv = c.loop-index.invariant in
-    let is_free = listed_free c.units.result.now (block_at v) c.args.count c.units.ensures.size c.units.ensures.each is_used at c.in-Some-find_free.ensures in
+    let is_free = listed_free c.units.result.now (block_at v) c.args.count c.units.ensures.size c.units.ensures.each is_used at (found_free c.find_free.result c.units.result.now at c.unwrap-at.ensures c.find_free.ensures) in
     let one = c.fill_at.ensures.one in
     let range = part_range slot number bytes k c.requires.slot c.requires.number c.requires.short (λ i. let t = c.type_inv.bytes i in omega arith) turn.0 in
     let filled : Filled (part_from slot number k (length bytes) (part_of bytes k)) (block_at w at) =
