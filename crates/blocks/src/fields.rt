@@ -91,7 +91,8 @@ pub(crate) fn content(block: &[u8; BLOCK_LENGTH]) -> &[u8]
     &block[DATA_AT..DATA_AT + length]
 }
 
-// Writes the part, and seals the block.
+// Writes the part, and seals the block. A slice, and no array: of a part of a memory that is lent as an array a proof
+// does not know what it ends as.
 pub(crate) fn fill(block: &mut [u8], part: Part<'_>)
     requires long { length block.old ≡ block_length }
     requires range { InRange (shown part) }

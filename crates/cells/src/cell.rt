@@ -86,6 +86,7 @@ pub(crate) fn content(cell: &[u8; CELL_LENGTH]) -> &[u8]
     &cell[NOTES_LENGTH..NOTES_LENGTH + length]
 }
 
+// A slice, and no array: of a part of a memory that is lent as an array a proof does not know what it ends as.
 pub(crate) fn fill(cell: &mut [u8], place: Place, bytes: &[u8])
     requires long { length cell.old ≡ cell_length }
     requires slot { place.slot < max_slots }

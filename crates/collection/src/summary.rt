@@ -190,6 +190,7 @@ impl Summary {
     fn outside_new(self, packet: Fragment) -> bool
         ensures { Tells self result (OutsideCount (shown packet.entry)) }
     {
+        // A closure round these three questions is no shorter.
         let Some(count) = packet.count else {
             return false;
         };

@@ -24,6 +24,7 @@ fn bears(slot: &Option<Stay>, id: &[u8]) -> bool
 }
 
 /// The slot that has a stay of the id.
+// A function of the table, as the next two: a type round an array would only hand them on.
 pub(crate) fn own_slot(slots: &[Option<Stay>], id: &[u8]) -> Option<usize>
     ensures { MatchOption result (Absent slots.now id.now) (λ k. OwnSlot slots.now id.now k) }
 {

@@ -45,6 +45,7 @@ impl Issuer {
             (λ t. Issued (issuing self.old) t.id (issuing self.new))
             (λ e. Unissued (issuing self.old) e (issuing self.new)) }
     {
+        // No `try_from`: what is refused is a fault of the sender's own, and no conversion's.
         if self.next >= SERIAL_COUNT {
             return Err(Layer::Sender.refusal(Fault::SerialsSpent, 0));
         }

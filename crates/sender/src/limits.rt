@@ -16,4 +16,5 @@ pub const ID_LENGTH: usize = 12;
 pub const SERIAL_COUNT: u64 = 4_294_967_296;
 
 /// How many bytes of a packet stand before its body: the header and the id.
+// It is added to a body's length where the sum is wanted: a call for that would say no more.
 pub const FRONT_LENGTH: usize = 32;

@@ -96,7 +96,7 @@ const CASES: [Case; 47] = [
     ("faults 6 and 7", 32, &[(7, 0), (11, 64)], (6, 6)),
 ];
 
-// Puts `part` at `at`, as far as there is room.
+// Puts `part` at `at`, byte by byte, as far as there is room.
 fn set_all(bytes: &mut Vec<u8>, at: usize, part: &[u8]) {
     for (i, byte) in part.iter().enumerate() {
         if let Some(place) = bytes.get_mut(at.saturating_add(i)) {
