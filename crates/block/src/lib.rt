@@ -59,6 +59,7 @@ pub fn is_lawful(block: &[u8]) -> bool
     ensures answer { IsTrue result ↔ Lawful block.now }
     ensures one_change { OneChange }
 {
+    // A `match`: through `is_some_and` the check does not find what the answer needs.
     match block.as_array() {
         Some(block) => is_found_lawful(block),
         None => false,
@@ -113,7 +114,8 @@ fn is_zero_from(block: &[u8; BLOCK_LENGTH], at: usize) -> bool
     block[at..CHECK_AT].iter().all(|byte| *byte == 0)
 }
 
-// The number in the two bytes from `at` on.
+// The number in the two bytes from `at` on. Private, for the places of its own fields; who writes blocks decodes
+// in place.
 fn word(block: &[u8; BLOCK_LENGTH], at: usize) -> u16
     requires { at + 2 ≤ block_length }
     ensures { result ≡ word_at block.now at }

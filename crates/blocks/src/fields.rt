@@ -72,7 +72,7 @@ fn block_place(block: &[u8; BLOCK_LENGTH]) -> Place
     }
 }
 
-// The length of the whole piece.
+// The length of the whole piece. Here and below a number is one call of `decode`, which a helper would only rename.
 pub(crate) fn whole(block: &[u8; BLOCK_LENGTH]) -> usize
     ensures { result ≡ whole_in block.now }
 {
@@ -119,7 +119,7 @@ pub(crate) fn fill(block: &mut [u8], part: Part<'_>)
     seal(block);
 }
 
-// Writes the check of the bytes before it.
+// Writes the check of the bytes before it. A slice, as `fill` has one.
 fn seal(block: &mut [u8])
     requires { length block.old ≡ block_length }
     ensures { block.new ≡ sealed (take check_start block.old) }

@@ -26,6 +26,7 @@ pub const MAX_BLOCKS: usize = 1024;
 
 /// A shelf that keeps a piece in one to three blocks, wherever blocks are free.
 /// After every call each of its blocks is lawful.
+// Fields and making are those of the cell shelf, with the reason there.
 #[derive(Drop)]
 pub struct BlockShelf<'a> {
     memory: &'a mut [u8],
@@ -73,7 +74,7 @@ impl<'a> BlockShelf<'a> {
         memory::units(self.memory, self.count)
     }
 
-    // One part of the piece at this place, empty where there is none.
+    // One part of the piece at this place, empty where there is none. A cell has a piece as a whole.
     fn part(&self, place: Place, index: usize) -> &[u8]
         ensures { result.now ≡
             part_in (block_at self.now.memory.now) self.now.count place.slot place.number index }

@@ -23,7 +23,7 @@ pub(crate) fn part_count(length: usize) -> usize
     length.div_ceil(DATA_LENGTH)
 }
 
-/// The first blocks of a memory.
+/// The first blocks of a memory. It has memory and count for `store`, which has them apart.
 pub(crate) fn units(memory: &[u8], count: usize) -> &[[u8; BLOCK_LENGTH]]
     requires { count * block_length ≤ length memory.now }
     ensures size { length result.now ≡ count }
@@ -51,6 +51,7 @@ fn fill_at(memory: &mut [u8], at: usize, part: Part<'_>)
     ensures filled { Filled (shown part.entry) (block_at memory.new at) }
     ensures one { OneUnit block_length memory.old at memory.new }
 {
+    // By place: the library says nothing of what a slice ends as after `as_chunks_mut`.
     let start = at * BLOCK_LENGTH;
     fields::fill(&mut memory[start..start + BLOCK_LENGTH], part);
 }

@@ -74,7 +74,7 @@ fn cell_place(cell: &[u8; CELL_LENGTH]) -> Place
     }
 }
 
-// The piece in the cell.
+// The piece in the cell. Its length is one call of `decode`, which a helper would only rename.
 pub(crate) fn content(cell: &[u8; CELL_LENGTH]) -> &[u8]
     requires { length_in cell.now ≤ max_piece }
     ensures { result.now ≡ content_of cell.now }

@@ -22,7 +22,8 @@ mod cell;
 pub const MAX_CELLS: usize = 512;
 
 /// A shelf with a cell of 1,456 bytes for each piece, so that each piece costs one unit.
-// The block shelf has the same fields: a struct of them, lent out for each write, is no plainer.
+// The block shelf has the same fields and makes itself alike: each its own kind, by its own limit and length. A struct of
+// the fields, lent out for each write, is no plainer. No derives: nothing compares or prints lent memory.
 #[derive(Drop)]
 pub struct CellShelf<'a> {
     memory: &'a mut [u8],
@@ -44,6 +45,7 @@ impl<'a> CellShelf<'a> {
         CellShelf { memory, count }
     }
 
+    // The library's `as_chunks` at this length, as the block shelf has it at its own.
     fn cells(&self) -> &[[u8; CELL_LENGTH]]
         ensures size { length result.now ≡ self.now.count }
         ensures each { (i : ℕ) → i < self.now.count →
@@ -101,6 +103,7 @@ impl<'a> Shelf for CellShelf<'a> {
         let Some(index) = find_free::<Cell, CELL_LENGTH>(self.cells()) else {
             return false;
         };
+        // By place: the library says nothing of what a slice ends as after `as_chunks_mut`.
         let at = index * CELL_LENGTH;
         cell::fill(&mut self.memory[at..at + CELL_LENGTH], place, bytes);
         true

@@ -150,6 +150,7 @@ fn slots<S: Shelf + Drop>(rt: &impl Abort, shelf: S) {
     assert_eq!(rt; rig.receiver.state(b"ninth").refused, 1);
 }
 
+// The same runs on each kind: a shelf borrows its memory, so each test makes its own.
 #[test]
 fn on_cells(rt: HostRuntime) -> Result<(), Fail> {
     let mut memory = vec![in rt.alloc(); 0; 9 * CELL_LENGTH]?;

@@ -34,7 +34,7 @@ pub struct Receiver<S> {
 }
 
 impl<S: Shelf> Receiver<S> {
-    /// A new receiver, whose shelf is cleared. Patience 0 means the default.
+    /// A new receiver, whose shelf is cleared. Patience 0 means the default: a number, since 0 is how users say so.
     ///
     /// Its promise `law` is that of the receiver as a whole: what holds of every run of calls from here.
     pub fn new(shelf: S, patience: u16) -> Receiver<S>
@@ -44,6 +44,7 @@ impl<S: Shelf> Receiver<S> {
         ensures shelf { SameShelf (held S.Shelf shelf) (held S.Shelf result.shelf) }
     {
         let mut shelf = shelf;
+        // The numbers of the slots, of which nothing is taken.
         for slot in 0..MAX_SLOTS {
             shelf.clear(slot);
         }

@@ -57,7 +57,7 @@ pub(crate) fn begun(slot: Option<Stay>, id: &[u8]) -> Stay
     })
 }
 
-/// What a packet in range says beside its id.
+/// What a packet in range says beside its id. No `From`: it asks that the packet is in range.
 pub(crate) fn fragment_of<'a>(packet: Packet<'a>) -> Fragment<'a>
     requires { InRange (packet-shown packet) }
     ensures { shown result ≡ fragment_of (packet-shown packet.entry) }

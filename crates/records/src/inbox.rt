@@ -5,6 +5,7 @@ use std::alloc::{AllocError, Global};
 use std::marker::Model;
 
 /// The bytes of an input that have come and are not used yet.
+// No derives of comparison and printing: nothing compares or prints an inbox, nor the records that are left.
 #[derive(Drop)]
 pub struct Inbox {
     waiting: Vec<u8>,

@@ -8,6 +8,7 @@ use std::marker::Model;
 
 /// An iterator over what the whole records of an input hold, in their order.
 /// A contract sees the bytes that are left.
+// No derives, as of `Inbox`.
 #[derive(Drop)]
 pub struct Records<'a> {
     rest: &'a [u8],

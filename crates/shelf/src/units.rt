@@ -60,7 +60,8 @@ pub fn count_used<U: Unit<N>, const N: usize>(units: &[[u8; N]]) -> usize
         .count()
 }
 
-// Frees the unit that has these bytes.
+// Frees the unit that has these bytes: a slice, since of a part of a memory that is lent as an array a proof does not
+// know what it ends as.
 fn free<U: Unit<N>, const N: usize>(bytes: &mut [u8])
     requires { length bytes.old ≡ N }
     ensures freed { U.Freed bytes.new }
@@ -69,7 +70,7 @@ fn free<U: Unit<N>, const N: usize>(bytes: &mut [u8])
     U::free(bytes.as_mut_array().unwrap());
 }
 
-// Frees unit `index` of the memory.
+// Frees unit `index` of the memory. By place: the library says nothing of what a slice ends as after `as_chunks_mut`.
 fn free_at<U: Unit<N>, const N: usize>(memory: &mut [u8], index: usize)
     requires { index * N + N ≤ length memory.old }
     ensures freed { U.Freed (unit_at N memory.new index) }

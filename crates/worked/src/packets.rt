@@ -13,7 +13,7 @@ type Case = (&'static str, usize, &'static [(usize, u8)], (u8, usize));
 
 const ORDERS: [ByteOrder; 2] = [ByteOrder::Big, ByteOrder::Little];
 
-// accepted
+// Accepted. Numbers and no `Result`: rows stay short, and a refusal is told by the number that users are promised.
 const OK: (u8, usize) = (0, 0);
 
 const CASES: [Case; 47] = [

@@ -1,4 +1,4 @@
-// What refusals and byte orders are in print.
+// What refusals are in print, and the names of byte orders.
 use std::test::Fail;
 use wire::order::{ByteOrder, UnknownByteOrder};
 use wire::refusal::{Fault, Layer};

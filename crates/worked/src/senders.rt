@@ -96,7 +96,8 @@ fn check_packets(
     Ok(())
 }
 
-// The length of a message, how many packets it makes at body length 16, and the number of its refusal.
+// The length of a message, how many packets it makes at body length 16, and the number of its refusal, which users are
+// promised; 0 where it is accepted, so that rows stay short.
 const MESSAGES: [(usize, usize, u8); 9] = [
     (0, 0, 11),
     (1, 1, 0),
