@@ -9,13 +9,17 @@ use Rattle.wire.proofs.Numbers.{length_digits}
 use Rattle.records.specs.Records.{record_of, Begins, Cut, Walked, Passed}
 use Rattle.records.specs.Visits.{VisitsEach}
 
--- what follows a record is shorter than the input
-pub begins_shorter : {input xs rest : List ℕ} → Begins input xs rest → length rest < length input
-begins_shorter {input} {xs} {rest} b =
+-- an input is two bytes longer than what its first record holds and what follows that
+pub begins_length : {input xs rest : List ℕ} → Begins input xs rest → length input ≡ 2 + (length xs + length rest)
+begins_length {input} {xs} {rest} b =
     let d = length_digits Big 2 (length xs) in
     let l = ap length b.bytes_are ∙ length-append (record_of xs) rest in
     let r = length-append (digits Big 2 (length xs)) xs in
     omega arith
+
+-- what follows a record is shorter than the input
+pub begins_shorter : {input xs rest : List ℕ} → Begins input xs rest → length rest < length input
+begins_shorter b = let l = begins_length b in omega arith
 
 pub passed_none : (input : List ℕ) → Passed input [] input
 passed_none input = record { counted = λ i h. absurd (omega arith); in_a_row = refl }
