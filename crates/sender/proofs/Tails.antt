@@ -1,10 +1,20 @@
 -- How a portion is split: what the first body lacks, the bodies after it, and what is left.
 use Rattle.std.proofs.lemmas.Grind.{common_steps}
 use Rattle.std.proofs.Common.{◌≡◌, ℕ, ◌+◌, ◌-◌, ◌*◌, ◌/◌, ◌<◌, ◌≤◌, List, ◌++◌, length, take, drop, sym, ap, ◌∙◌, arith}
+use Rattle.std.specs.List.{refill}
 use Rattle.std.proofs.Math.Nat.{mul-div_left}
 use Rattle.std.proofs.Math.Seq.{take-add}
 use Rattle.std.proofs.lemmas.List.{drop-drop, length-drop, drop_at, take_at}
+use Rattle.std.proofs.lemmas.Nat.{le-div}
 use Rattle.sender.specs.Sending.{sure}
+
+-- where more came than a body holds, a packet is sure
+pub some_sure : (L n k : ℕ) → 0 < L → L < n → k ≡ sure L n → 0 < k
+some_sure L n k p m e = let d = le-div 1 (n - 1) L p (omega arith) in omega arith
+
+-- what a tail holds after a write of its elements as a slice
+pub written_over : (t new left : List ℕ) → length new ≡ length t → new ≡ left → refill (length t) t new ≡ left
+written_over t new left l e = take_at new (drop (length new) t) (length t) l ∙ e
 
 -- the portion q, after the bytes t that were held, where n packets of L bytes are sure
 pub record Split (L n : ℕ) (t q missing bodies left : List ℕ) : Type 0 where

@@ -55,11 +55,12 @@ impl OpenSender {
         }
         let cut = state.length.value;
         let held = state.tail.len();
-        let count = state.length.sure(held + portion.len());
-        if count == 0 {
+        let total = held + portion.len();
+        if total <= cut {
             state.tail.try_extend_from_slice(portion).unwrap();
             return Ok(0);
         }
+        let count = state.length.sure(total);
         if buffer.len() < count * (FRONT_LENGTH + cut) {
             return Err(Layer::Sender.refusal(Fault::BufferLength, 0));
         }
@@ -67,8 +68,9 @@ impl OpenSender {
         let (bodies, left) = rest.split_at((count - 1) * cut);
         state.tail.try_extend_from_slice(missing).unwrap();
         put_run(buffer, &state.packet(false), bodies);
-        state.tail.clear();
-        state.tail.try_extend_from_slice(left).unwrap();
+        // Written over in place: to empty the tail first would write over all of it once more.
+        state.tail.truncate(left.len());
+        state.tail.as_mut_slice().copy_from_slice(left);
         state.sent += count;
         Ok(count)
     }
