@@ -1,9 +1,8 @@
 -- How many pass a test.
-use Rattle.std.proofs.Common.{◌≡◌, ℕ, zero, suc, ◌+◌, ◌<◌, ◌≤◌, Bool, true, false, cond, List, [], ◌∷◌, length, get_or, refl, ap, ◌∙◌, inl, inr, arith}
+use Rattle.std.proofs.Common.{◌≡◌, ℕ, zero, suc, ◌+◌, ◌<◌, ◌≤◌, Bool, true, false, cond, refl, ap, ◌∙◌, inl, inr, arith}
 use Rattle.std.proofs.lemmas.Bool.{cases_Bool, cases_eq}
-use Rattle.std.specs.List.{filter}
 use Rattle.shelf.specs.Sums.{total, count_of}
-use Rattle.shelf.proofs.Totals.{total_first, total_zero, total_same, total_none, total_bump}
+use Rattle.shelf.proofs.Totals.{total_zero, total_same, total_none, total_bump}
 
 pub count_zero : (test : ℕ → Bool) → count_of test 0 ≡ 0
 count_zero test = total_zero (λ i. cond (test i) 1 0)
@@ -62,11 +61,3 @@ count_some test (suc k) j l t =
       | inl same ↦ let t' : test k ≡ true = ap test same ∙ t in rw t' (omega arith)
       | inr other ↦ let rest : 0 < count_of test k = count_some test k j (omega arith) t in omega arith
     ]
-
--- those of a list that pass
-pub count_filter : (test : List ℕ → Bool) (xs : List (List ℕ)) → count_of (λ i. test (get_or xs i [])) (length xs) ≡ length (filter test xs)
-count_filter test [] = total_zero (λ i. cond (test (get_or [] i [])) 1 0)
-count_filter test (x ∷ xs) =
-    let first = total_first (λ i. cond (test (get_or (x ∷ xs) i [])) 1 0) (length xs) in
-    let rest = count_filter test xs in
-    elim (cases_Bool (test x)) [ inl t ↦ rw (first, t, rest) (omega arith) | inr f ↦ rw (first, f, rest) (omega arith) ]

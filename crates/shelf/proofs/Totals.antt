@@ -8,11 +8,6 @@ pub total_more : (f : ℕ → ℕ) (k : ℕ) → total f (suc k) ≡ f k + total
 unfolding total
 total_more f k = refl
 
-pub total_first : (f : ℕ → ℕ) (k : ℕ) → total f (suc k) ≡ f 0 + total (λ i. f (suc i)) k
-unfolding total
-total_first f zero = refl
-total_first f (suc k) = let rest = total_first f k in omega arith
-
 pub total_zero : (f : ℕ → ℕ) → total f 0 ≡ 0
 unfolding total
 total_zero f = refl

@@ -50,14 +50,14 @@ pub fn find_free<U: Unit<N>, const N: usize>(units: &[[u8; N]]) -> Option<usize>
 pub fn count_used<U: Unit<N>, const N: usize>(units: &[[u8; N]]) -> usize
     ensures { result ≡ count_of (λ i. U.used (nth_unit units.now i)) (length units.now) }
 {
-    units
-        .iter()
-        .filter(
-            |unit: &&[u8; N]| -> bool
-                ensures { result ≡ U.used unit.now.now }
-            { U::is_used(unit) },
-        )
-        .count()
+    // A loop over the elements: as `filter(..).count()` it takes twice the time.
+    let mut used = 0;
+    for unit in units {
+        if U::is_used(unit) {
+            used += 1;
+        }
+    }
+    used
 }
 
 // Frees the unit that has these bytes: a slice, since of a part of a memory that is lent as an array a proof does not
