@@ -1,5 +1,5 @@
 -- Replies: what the receiver's calls return, as a history tells it.
-use Rattle.std.specs.Prelude.{◌≡◌, ℕ, ◌≤◌, List, ◌++◌, length, take, drop, Ok, Err, Result}
+use Rattle.std.specs.Prelude.{◌≡◌, ℕ, ◌≤◌, List, ◌++◌, length, take, drop, Ok, Err, Result, codes}
 use Rattle.wire.specs.Refusals.{fault_number}
 use Rattle.wire.specs.declared.refusal.Refusal.{Refusal}
 use Rattle.history.specs.Calls.{State, Reply, is_none, is_gathering, is_whole, is_spoiled, is_fetched, kept, repeated, completed, refused, delivered, told}
@@ -16,6 +16,12 @@ abbrev pub outcome_reply : Outcome → Reply
 outcome_reply Kept = kept
 outcome_reply Repeated = repeated
 outcome_reply Whole = completed
+
+-- what an outcome is in print
+abbrev pub outcome_name : Outcome → List ℕ
+outcome_name Kept = codes "kept"
+outcome_name Repeated = codes "repeated"
+outcome_name Whole = codes "whole"
 
 -- what an arrival is answered
 abbrev pub arrival_reply : Result Outcome Refusal → Reply

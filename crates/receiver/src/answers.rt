@@ -1,4 +1,7 @@
 // What the receiver's calls answer.
+ghost use Rattle.std.specs.Prelude.{Some};
+ghost use Rattle.receiver.specs.Replies.{outcome_name};
+
 use std::fmt;
 
 /// What became of an arrival that is not refused.
@@ -13,6 +16,8 @@ pub enum Outcome {
 }
 
 impl fmt::Display for Outcome {
+    ghost output = { λ outcome. Some (outcome_name outcome) };
+
     fn fmt<W: fmt::Write>(&self, f: &mut fmt::Formatter<W>) -> fmt::Result {
         f.write_str(match self {
             Outcome::Kept => "kept",

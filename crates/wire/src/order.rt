@@ -21,6 +21,10 @@ pub enum ByteOrder {
 pub struct UnknownByteOrder;
 
 impl fmt::Display for UnknownByteOrder {
+    ghost use Rattle.std.specs.Prelude.{Some, codes};
+
+    ghost output = { λ _. Some (codes "a byte order is big or little") };
+
     fn fmt<W: fmt::Write>(&self, f: &mut fmt::Formatter<W>) -> fmt::Result {
         f.write_str("a byte order is big or little")
     }

@@ -1,6 +1,8 @@
 // The one form of every refusal of the link.
-ghost use Rattle.std.specs.Prelude.{◌≡◌};
+ghost use Rattle.std.specs.Prelude.{◌≡◌, Some};
+ghost use Rattle.std.specs.Fmt.{decimal};
 ghost use Rattle.wire.specs.Refusals.{fault_number, RefusedBy};
+ghost use Rattle.wire.specs.Prints.{layer_name, refusal_text};
 
 use std::error::Error;
 use std::fmt;
@@ -75,6 +77,8 @@ impl Fault {
 
 /// Prints the number.
 impl fmt::Display for Fault {
+    ghost output = { λ fault. Some (decimal (fault_number fault)) };
+
     fn fmt<W: fmt::Write>(&self, f: &mut fmt::Formatter<W>) -> fmt::Result {
         write!(f, "{}", self.number())
     }
@@ -106,6 +110,8 @@ impl Layer {
 }
 
 impl fmt::Display for Layer {
+    ghost output = { λ layer. Some (layer_name layer) };
+
     fn fmt<W: fmt::Write>(&self, f: &mut fmt::Formatter<W>) -> fmt::Result {
         f.write_str(match self {
             Layer::Packet => "packet",
@@ -129,6 +135,8 @@ pub struct Refusal {
 }
 
 impl fmt::Display for Refusal {
+    ghost output = { λ refusal. Some (refusal_text refusal) };
+
     fn fmt<W: fmt::Write>(&self, f: &mut fmt::Formatter<W>) -> fmt::Result {
         write!(
             f,
